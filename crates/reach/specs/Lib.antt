@@ -1,0 +1,2 @@
+-- What can be reached.
+pub mod Reached
