@@ -1,0 +1,2 @@
+-- Cells as frames.
+pub mod Cells
