@@ -1,0 +1,3 @@
+-- What reading rests on.
+pub mod Lines
+pub mod Texts
