@@ -54,7 +54,7 @@ MADE = ("returns-", "loop-", "invariant-", "decreases-", "in-", "then-", "else-"
 WORD = r"A-Za-z0-9_'ℕ"
 BEFORE, BEHIND = rf"(?<![{WORD}.-])", rf"(?![{WORD}-])"
 TOKEN = re.compile(rf"{BEFORE}([A-Za-z][{WORD}]*(?:-[{WORD}+]+)+)")
-USE = re.compile(r"use Rattle\.([\w.]+)\.\{([^}]*)\}")
+USE = re.compile(r"use ([\w.]+)\.\{([^}]*)\}")
 
 
 def module(path):
@@ -65,7 +65,7 @@ def module(path):
 
 def imports(text):
     for where, names in USE.findall(text):
-        yield where, [n.split(" as ")[0].strip() for n in names.split(",")]
+        yield where.removeprefix("Rattle."), [n.split(" as ")[0].strip() for n in names.split(",")]
 
 
 def ghost_parts(text):

@@ -1,6 +1,6 @@
 -- Numbers as bytes and back: two bytes, four bytes, and lists of two bytes each.
 use Rattle.std.proofs.Common.{◌≡◌, ℕ, zero, suc, ◌+◌, ◌*◌, ◌/◌, ◌%◌, ◌<◌, List, [], ◌∷◌, ◌++◌, length, get_or, take, set, refl, ap, append_assoc, arith}
-use native.Mathlib.Nat.{div_div_eq_div_mul}
+use native.Mathlib.Nat.{div-div-eq-div-mul}
 use Rattle.std.specs.List.{AllByRecursion as All}
 use Rattle.std.proofs.lemmas.List.{length-set, take_more, take_more_set}
 use Rattle.encoding.specs.Bytes.{Bytes, two, four, twos, two_at, words}
@@ -23,8 +23,8 @@ two_of a b p q =
 -- a number that fits four bytes is what they hold
 pub four_value : (n : ℕ) → n < 4294967296 → n % 256 + n / 256 % 256 * 256 + n / 65536 % 256 * 65536 + n / 16777216 % 256 * 16777216 ≡ n
 four_value n h =
-    let b : n / 256 / 256 ≡ n / 65536 = div_div_eq_div_mul n 256 256 in
-    let c : n / 65536 / 256 ≡ n / 16777216 = div_div_eq_div_mul n 65536 256 in
+    let b : n / 256 / 256 ≡ n / 65536 = div-div-eq-div-mul n 256 256 in
+    let c : n / 65536 / 256 ≡ n / 16777216 = div-div-eq-div-mul n 65536 256 in
     let d : n / 16777216 < 256 = omega arith in
     let x : n / 65536 ≡ n / 65536 % 256 + n / 16777216 * 256 = omega arith in
     let y : n / 256 ≡ n / 256 % 256 + n / 65536 * 256 = omega arith in
@@ -39,8 +39,8 @@ four_of a b c d p q r s =
     let l = low_byte a (b + (c + d * 256) * 256) p in
     let m = low_byte b (c + d * 256) q in
     let k = low_byte c d r in
-    let x = div_div_eq_div_mul (a + (b + (c + d * 256) * 256) * 256) 256 256 in
-    let y = div_div_eq_div_mul (a + (b + (c + d * 256) * 256) * 256) 65536 256 in
+    let x = div-div-eq-div-mul (a + (b + (c + d * 256) * 256) * 256) 256 256 in
+    let y = div-div-eq-div-mul (a + (b + (c + d * 256) * 256) * 256) 65536 256 in
     let u : d % 256 ≡ d = omega arith in
     rw (e, ← y, ← x, l.0, l.1, m.0, m.1, k.0, k.1, u)
 

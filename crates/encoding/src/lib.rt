@@ -1,4 +1,6 @@
 // How calls and answers are written as bytes and read again. Each function stands for one law, which is its contract.
+#![tactic(auto)]
+
 ghost use Rattle.encoding.specs.Laws.{CallsReadBack, CallOrPlace, CallsToldApart, AnswersReadBack, AnswerOrPlace, AnswersToldApart};
 
 // A call that is written is read back as itself.

@@ -1,4 +1,6 @@
 // Which frames can be brought to which, and in how many moves, for every size. Each function stands for one statement, which is its contract.
+#![tactic(auto)]
+
 ghost use Rattle.slide.specs.Promise.{SignTells, NotTooMany, RowByRow};
 ghost use Rattle.reach.specs.Reached.{SevenEach, RoomLeft, AnyToAny, ExchangeMends};
 

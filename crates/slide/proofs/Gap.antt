@@ -1,6 +1,6 @@
 -- The gap of a list is the first 0 in it.
 use Rattle.std.proofs.Common.{◌≡◌, ℕ, zero, suc, ◌<◌, ◌≤◌, ◌≢◌, ◌⊎◌, List, [], ◌∷◌, length, get_or, sym, refl, ap, ◌∙◌, inl, inr, ⊎_elim, arith}
-use lib.Dec.{eqb_suc_zero}
+use lib.Dec.{eqb-suc-zero}
 use Rattle.std.proofs.lemmas.Bool.{cases_eq, cases_lt}
 use Rattle.slide.specs.Tiles.{gap_in}
 use Rattle.slide.proofs.Exchange.{swap, swap_first, swap_other}
@@ -10,7 +10,7 @@ pub gap_zero : (cs : List ℕ) → get_or cs (gap_in cs) 0 ≡ 0
 unfolding gap_in
 gap_zero [] = refl
 gap_zero (zero ∷ cs) = refl
-gap_zero (suc c ∷ cs) = rw (eqb_suc_zero c) (gap_zero cs)
+gap_zero (suc c ∷ cs) = rw (eqb-suc-zero c) (gap_zero cs)
 
 -- no 0 stands before it
 pub gap_le : (cs : List ℕ) (p : ℕ) → p < length cs → get_or cs p 0 ≡ 0 → gap_in cs ≤ p
@@ -19,7 +19,7 @@ gap_le [] p l e = omega arith
 gap_le (zero ∷ cs) p l e = omega arith
 gap_le (suc c ∷ cs) zero l e = omega arith
 gap_le (suc c ∷ cs) (suc p) l e =
-    rw (eqb_suc_zero c) (let k : p < length cs = omega arith in let r : gap_in cs ≤ p = gap_le cs p k e in omega arith)
+    rw (eqb-suc-zero c) (let k : p < length cs = omega arith in let r : gap_in cs ≤ p = gap_le cs p k e in omega arith)
 
 -- where a 0 stands, and nowhere else, there is the gap
 pub gap_is : (cs : List ℕ) (p : ℕ) → p < length cs → get_or cs p 0 ≡ 0 → ((q : ℕ) → q < length cs → get_or cs q 0 ≡ 0 → q ≡ p) → gap_in cs ≡ p
@@ -37,7 +37,7 @@ pub gap_length : (cs : List ℕ) → gap_in cs ≤ length cs
 unfolding gap_in
 gap_length [] = omega arith
 gap_length (zero ∷ cs) = omega arith
-gap_length (suc c ∷ cs) = rw (eqb_suc_zero c) (omega (arith, gap_length cs))
+gap_length (suc c ∷ cs) = rw (eqb-suc-zero c) (omega (arith, gap_length cs))
 
 pub gap_none : (cs : List ℕ) → ((q : ℕ) → q < length cs → get_or cs q 0 ≢ 0) → gap_in cs ≡ length cs
 gap_none cs n = ⊎_elim (λ h. absurd (n (gap_in cs) h (gap_zero cs))) (λ h. omega (arith, gap_length cs)) (cases_lt (gap_in cs) (length cs))

@@ -1,4 +1,6 @@
 // What holds of every frame of every size. Each function stands for one statement, which is its contract.
+#![tactic(auto)]
+
 ghost use Rattle.slide.specs.Promise.{MadeBack, HalfOfAll, AtLeast};
 ghost use Rattle.slide.specs.Examples.{TwiceToTheLeft, LastTwoNever};
 

@@ -1,4 +1,6 @@
 // Reads a frame, draws it, and says whether it can be put in order.
+#![tactic(auto)]
+
 use anyhow::anyhow;
 use std::alloc::Global;
 use std::{env, fs, io};

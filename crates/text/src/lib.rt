@@ -1,4 +1,6 @@
 // Frames as people write them: rows of numbers, read and drawn.
+#![tactic(auto)]
+
 pub mod draw;
 pub mod fault;
 pub mod flaw;
