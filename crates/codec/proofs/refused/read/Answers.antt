@@ -9,9 +9,9 @@ use Rattle.codec.proofs.refused.read.Goals as goal
 pub returns : goal.returns
 returns c =
     let bs = c.args.bytes.now in
-    let l : length bs ≡ misfit bs 1 6 = c.in-ok-exactly.ensures ∙ c.first-misfit.ensures.value in
+    let l : length bs ≡ misfit bs 1 6 = c.in_ok-exactly.ensures ∙ c.first_misfit.ensures.value in
     let s = stand_refusal bs (misfit_whole bs l).1 in
-    let p = c.from-le-bytes-place.ensures in
-    let r : refusal (get_or bs 1 0) c.from-le-bytes-place.result ≡ true = rw p s.1 in
+    let p = c.from_le_bytes-place.ensures in
+    let r : refusal (get_or bs 1 0) c.from_le_bytes-place.result ≡ true = rw p s.1 in
     let e = c.listed.ensures r in
     record { value = rw (eq-eqb (length bs) (misfit bs 1 6) l, e.0, e.1, s.0, p); whole = search rules }

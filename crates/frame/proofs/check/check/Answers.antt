@@ -6,7 +6,7 @@ use Rattle.frame.proofs.check.check.Goals as goal
 pub loop-cell-preserved : goal.loop-cell-preserved
 loop-cell-preserved c =
     below_more _ _ c.loop-cell.invariant
-    (fits_more c.args.cells.now c.loop-cell.cell (omega arith) c.count-count.result (omega (arith, c.from.ensures)) c.in-default.ensures)
+    (fits_more c.args.cells.now c.loop-cell.cell (omega arith) c.count-count.result (omega (arith, c.from.ensures)) c.in_default.ensures)
 
 pub returns-then-from-count : goal.returns-then-from-count
 returns-then-from-count c =

@@ -4,4 +4,4 @@ use Rattle.frame.proofs.Inversions.{gap_found}
 use Rattle.frame.proofs.sign.gap.Goals as goal
 
 pub returns : goal.returns
-returns c = c.unwrap-or.ensures ∙ gap_found c.args.cells.now c.find.result c.find.ensures
+returns c = c.unwrap_or.ensures ∙ gap_found c.args.cells.now c.find.result c.find.ensures

@@ -6,13 +6,13 @@ use Rattle.frame.proofs.Inversions.{larger_few, wrong_more, wrong_end}
 use Rattle.frame.proofs.sign.inversions.Goals as goal
 
 -- what the call counted, of the cells behind this one
-behind : (c : goal.After-inversions-with-pairs) → (c.inversions-with-pairs.result ≡ larger_than (get_or c.args.cells.now c.loop-cell.cell 0) (drop (c.loop-cell.cell + 1) c.args.cells.now)) × (c.inversions-with-pairs.result ≤ 256)
+behind : (c : goal.After-inversions_with-pairs) → (c.inversions_with-pairs.result ≡ larger_than (get_or c.args.cells.now c.loop-cell.cell 0) (drop (c.loop-cell.cell + 1) c.args.cells.now)) × (c.inversions_with-pairs.result ≤ 256)
 behind c =
-    let e = rw (take_rest c.args.cells.now (c.loop-cell.cell + 1)) at c.inversions-with-pairs.ensures in
+    let e = rw (take_rest c.args.cells.now (c.loop-cell.cell + 1)) at c.inversions_with-pairs.ensures in
     (e, omega (arith, e, larger_few (get_or c.args.cells.now c.loop-cell.cell 0) (drop (c.loop-cell.cell + 1) c.args.cells.now), length-drop (c.loop-cell.cell + 1) c.args.cells.now, c.requires))
 
-pub overflow-add-pairs : goal.overflow-add-pairs
-overflow-add-pairs c = omega (arith, (behind c).1)
+pub overflow_add-pairs : goal.overflow_add-pairs
+overflow_add-pairs c = omega (arith, (behind c).1)
 
 pub loop-cell-preserved : goal.loop-cell-preserved
 loop-cell-preserved c =

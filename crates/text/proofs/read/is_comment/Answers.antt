@@ -6,5 +6,5 @@ use Rattle.text.proofs.read.is_comment.Goals as goal
 
 pub returns-in-None : goal.returns-in-None
 returns-in-None c =
-    let empty : length c.args.text.now ≤ 0 = omega (arith, c.in-None.ensures.item.3, c.as-bytes.ensures.len) in
+    let empty : length c.args.text.now ≤ 0 = omega (arith, c.in-None.ensures.item.3, c.as_bytes.ensures.len) in
     (λ e. absurd (false≢true e), λ h. absurd (no_comment c.args.text.now empty h))

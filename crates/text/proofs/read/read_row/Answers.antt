@@ -4,12 +4,12 @@ use Rattle.std.specs.Str.Iter.{split_whitespace_rest}
 use Rattle.text.proofs.Lines.{word_of, one_more, no_more, bad_word, parsed, not_parsed}
 use Rattle.text.proofs.read.read_row.Goals as goal
 
-pub returns-in-default : goal.returns-in-default
-returns-in-default c =
+pub returns-in_default : goal.returns-in_default
+returns-in_default c =
     let w = c.in-Some.word.now in
     let next = split_whitespace_rest c.next.new.self in
     let first = word_of (split_whitespace_rest c.loop-word.word-iterator) w next c.in-Some.ensures.steps in
-    (refl, bad_word c.loop-word.invariant {w = w} {next = next} first (not_parsed w c.in-default.ensures.value.0))
+    (refl, bad_word c.loop-word.invariant {w = w} {next = next} first (not_parsed w c.in_default.ensures.value.0))
 
 pub loop-word-preserved : goal.loop-word-preserved
 loop-word-preserved c =
