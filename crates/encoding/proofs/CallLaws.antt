@@ -1,5 +1,5 @@
 -- Calls as bytes: read back as they are written, and where bytes cease to be a call.
-use Rattle.std.proofs.Common.{◌≡◌, ℕ, zero, suc, ◌+◌, ◌<◌, eqb, List, [], ◌∷◌, ◌++◌, length, get_or, drop, Err, MatchBool, refl, ap, subst, inl, arith, MatchResult}
+use Rattle.std.proofs.Common.{◌≡◌, ℕ, zero, suc, ◌<◌, eqb, List, [], ◌∷◌, ◌++◌, length, get_or, drop, Err, MatchBool, refl, ap, subst, inl, arith, MatchResult}
 use Rattle.slide.specs.Calls as calls
 use Rattle.encoding.specs.Bytes.{Bytes, two, twos, words}
 use Rattle.encoding.specs.Formats.{Begins, StopsAt}

@@ -2,7 +2,7 @@
 use Rattle.std.proofs.Common.{◌≡◌, ℕ, zero, suc, ◌+◌, ◌-◌, ◌*◌, ◌/◌, ◌%◌, ◌<◌, ◌≤◌, true, eqb, List, [], ◌∷◌, ◌++◌, length, get_or, refl, ap, ◌∙◌, ⊎_elim, arith}
 use Rattle.std.proofs.lemmas.Bool.{and_parts, ne_eqb, eq-eqb, cases_eq}
 use Rattle.std.proofs.lemmas.Nat.{div-mul-add, mod-mul-add}
-use Rattle.slide.specs.Tiles.{pick, Frame, at, gap, from, can, moved, can_all, after_all, up_from, proper}
+use Rattle.slide.specs.Tiles.{pick, Frame, gap, from, can, moved, can_all, after_all, up_from, proper}
 use Rattle.slide.specs.Promise.{apart, far_in, AtLeast}
 use Rattle.slide.proofs.Exchange.{swap}
 use Rattle.slide.proofs.Sums.{sum_swap}

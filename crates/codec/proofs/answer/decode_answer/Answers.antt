@@ -1,5 +1,5 @@
 -- The law is that of all rows of bytes, and a slice holds bytes.
-use Rattle.std.proofs.Common.{◌≡◌, Err, arith, rules}
+use Rattle.std.proofs.Common.{◌≡◌, Err, rules}
 use Rattle.encoding.specs.AnswerBytes.{AnswerFits, answer_bytes, read_answer}
 use Rattle.encoding.proofs.AnswerLaws.{answer_or_place}
 use Rattle.codec.specs.Meaning.{told_in, as_read}

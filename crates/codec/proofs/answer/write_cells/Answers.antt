@@ -1,5 +1,5 @@
 -- Two bytes more for each cell, until there are no more of either.
-use Rattle.std.proofs.Common.{◌≡◌, ◌*◌, ◌≤◌, length, sym, refl, ap, ◌∙◌, arith, rules}
+use Rattle.std.proofs.Common.{◌*◌, ◌≤◌, length, sym, refl, ap, ◌∙◌, arith, rules}
 use Rattle.std.proofs.lemmas.List.{take_all}
 use Rattle.encoding.specs.Bytes.{twos}
 use Rattle.encoding.proofs.Numbers.{twos_more}

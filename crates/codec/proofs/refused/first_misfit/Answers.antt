@@ -1,5 +1,5 @@
 -- Place by place; behind the last byte nothing is out of place.
-use Rattle.std.proofs.Common.{◌≡◌, sym, refl, arith}
+use Rattle.std.proofs.Common.{sym, refl, arith}
 use Rattle.encoding.proofs.Misfits.{misfit_stop, misfit_next, misfit_end}
 use Rattle.codec.proofs.refused.first_misfit.Goals as goal
 

@@ -1,5 +1,5 @@
 -- Seven bytes that can stand where they do have the number and the place of a refusal.
-use Rattle.std.proofs.Common.{◌≡◌, true, length, get_or, sym, refl, ◌∙◌, arith, rules}
+use Rattle.std.proofs.Common.{◌≡◌, true, length, get_or, ◌∙◌, rules}
 use Rattle.std.proofs.lemmas.Bool.{eq-eqb}
 use Rattle.encoding.specs.AnswerBytes.{refusal, misfit}
 use Rattle.encoding.proofs.Misfits.{misfit_whole}
