@@ -1,7 +1,7 @@
 -- What answers leave in lent bytes, from the first on.
 use Rattle.std.proofs.Common.{◌≡◌, ℕ, ◌+◌, ◌-◌, ◌*◌, ◌<◌, ◌≤◌, List, [], ◌∷◌, ◌++◌, length, get_or, take, drop, set, Ok, refl, subst, arith, w8, w16, Fits}
 use borrow.Rule.Slice.PartMut.{put_mid}
-use Rattle.std.specs.List.{AllByRecursion as All}
+use Rattle.std.specs.List.{AllByRecursion}
 use Rattle.std.proofs.ByRecursion.{All-from_get_or, All-take}
 use Rattle.std.proofs.lemmas.List.{length-take-le, length-drop, take-append-drop, take_at, drop-drop}
 use Rattle.slide.specs.Calls as calls
@@ -58,7 +58,7 @@ read_again a cs out after h f e =
     rw (e, t) (answers_read_back (told a cs out) f)
 
 -- cells that lie in a slice of numbers of two bytes fit these
-pub cells_fit : (cs : List ℕ) → ((i : ℕ) → Fits w16 (get_or cs i 0)) → All (λ c. c < 65536) cs
+pub cells_fit : (cs : List ℕ) → ((i : ℕ) → Fits w16 (get_or cs i 0)) → AllByRecursion (λ c. c < 65536) cs
 cells_fit cs h = All-from_get_or (λ c. c < 65536) cs 0 (λ i l. omega (arith, h i))
 
 -- the moves of a way are bytes

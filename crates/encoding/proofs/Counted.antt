@@ -1,6 +1,6 @@
 -- A count in two bytes and so many numbers in two bytes each; and nothing at all.
 use Rattle.std.proofs.Common.{◌≡◌, ℕ, ◌+◌, ◌*◌, ◌%◌, ◌<◌, ◌≤◌, List, [], ◌∷◌, ◌++◌, length, drop, refl, ⊎_elim, arith}
-use Rattle.std.specs.List.{AllByRecursion as All}
+use Rattle.std.specs.List.{AllByRecursion}
 use Rattle.std.proofs.lemmas.List.{length-drop}
 use Rattle.std.proofs.lemmas.Bool.{cases_lt, lt-ltb, le-ltb}
 use Rattle.encoding.specs.Bytes.{two, twos, two_at, words}
@@ -27,7 +27,7 @@ counted_twos ns h =
 
 -- and such bytes are numbers with their count before them
 pub twos_counted : (bs : List ℕ) → Headed 2 counted bs →
-    (length (words (drop 2 bs)) < 65536) × All (λ c. c < 65536) (words (drop 2 bs)) × (two (length (words (drop 2 bs))) ++ twos (words (drop 2 bs)) ≡ bs)
+    (length (words (drop 2 bs)) < 65536) × AllByRecursion (λ c. c < 65536) (words (drop 2 bs)) × (two (length (words (drop 2 bs))) ++ twos (words (drop 2 bs)) ≡ bs)
 twos_counted [] h = absurd (omega (arith, h.0))
 twos_counted (a ∷ []) h = absurd (omega (arith, h.0))
 twos_counted (a ∷ b ∷ bs) h =

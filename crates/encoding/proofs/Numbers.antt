@@ -1,7 +1,7 @@
 -- Numbers as bytes and back: two bytes, four bytes, and lists of two bytes each.
 use Rattle.std.proofs.Common.{◌≡◌, ℕ, zero, suc, ◌+◌, ◌*◌, ◌/◌, ◌%◌, ◌<◌, List, [], ◌∷◌, ◌++◌, length, get_or, take, set, refl, ap, append_assoc, arith}
 use native.Mathlib.Nat.{div-div-eq-div-mul}
-use Rattle.std.specs.List.{AllByRecursion as All}
+use Rattle.std.specs.List.{AllByRecursion}
 use Rattle.std.proofs.lemmas.List.{length-set, take_more, take_more_set}
 use Rattle.encoding.specs.Bytes.{Bytes, two, four, twos, two_at, words}
 
@@ -68,13 +68,13 @@ Bytes-twos [] = tt
 Bytes-twos (n ∷ ns) = (omega arith, (omega arith, Bytes-twos ns))
 
 -- numbers that fit two bytes each are read back
-pub words-twos : (ns : List ℕ) → All (λ n. n < 65536) ns → words (twos ns) ≡ ns
+pub words-twos : (ns : List ℕ) → AllByRecursion (λ n. n < 65536) ns → words (twos ns) ≡ ns
 unfolding twos words
 words-twos [] h = refl
 words-twos (n ∷ ns) h = rw (two_value n h.0, words-twos ns h.1)
 
 -- bytes that make up k numbers are what these are written as
-pub twos-words : (bs : List ℕ) (k : ℕ) → Bytes bs → length bs ≡ 2 * k → (twos (words bs) ≡ bs) × (length (words bs) ≡ k) × All (λ n. n < 65536) (words bs)
+pub twos-words : (bs : List ℕ) (k : ℕ) → Bytes bs → length bs ≡ 2 * k → (twos (words bs) ≡ bs) × (length (words bs) ≡ k) × AllByRecursion (λ n. n < 65536) (words bs)
 unfolding twos words
 twos-words [] k h l = (refl, omega arith, tt)
 twos-words (a ∷ []) k h l = absurd (omega arith)

@@ -1,6 +1,6 @@
 -- Answers as bytes: how they are written, and how bytes are read. Assumes nothing: these are definitions.
 use Rattle.std.specs.Prelude.{◌≡◌, ℕ, zero, suc, ◌*◌, ◌<◌, Bool, true, not, ◌&&◌, ◌||◌, List, [], ◌∷◌, ◌++◌, length, drop, Err, Result, ◌==◌, nat_le, nat_lt, slice_index}
-use Rattle.std.specs.List.{AllByRecursion as All}
+use Rattle.std.specs.List.{AllByRecursion}
 use Rattle.slide.specs.Tiles.{pick}
 use Rattle.slide.specs.Calls as calls
 use Rattle.encoding.specs.Bytes.{Bytes, two, four, twos, two_at, four_at, words}
@@ -14,7 +14,7 @@ refusal k p = k == 1 || ((k == 3 && nat_lt p 2) || ((k == 2 || (k == 4 || k == 5
 abbrev pub AnswerFits : calls.Answer → Type 0
 AnswerFits (calls.refused k p) = (refusal k p ≡ true) × (p < 4294967296)
 AnswerFits (calls.number n) = n < 65536
-AnswerFits (calls.cells cs) = (length cs < 65536) × All (λ c. c < 65536) cs
+AnswerFits (calls.cells cs) = (length cs < 65536) × AllByRecursion (λ c. c < 65536) cs
 AnswerFits (calls.way ms) = (length ms < 4294967296) × Bytes ms
 AnswerFits calls.never = Unit {0}
 

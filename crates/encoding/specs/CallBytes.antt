@@ -1,6 +1,6 @@
 -- Calls as bytes: how they are written, and how bytes are read. Assumes nothing: these are definitions.
 use Rattle.std.specs.Prelude.{ℕ, ◌*◌, ◌<◌, List, [], ◌∷◌, ◌++◌, length, drop, Err, Result, ◌==◌, slice_index}
-use Rattle.std.specs.List.{AllByRecursion as All}
+use Rattle.std.specs.List.{AllByRecursion}
 use Rattle.slide.specs.Tiles.{pick}
 use Rattle.slide.specs.Calls as calls
 use Rattle.encoding.specs.Bytes.{two, twos, two_at, words}
@@ -8,7 +8,7 @@ use Rattle.encoding.specs.Formats.{exactly, sized, by_first, Writing}
 
 -- the calls that can be written: their numbers fit their bytes; what can't be read is no call
 abbrev pub CallFits : calls.Call → Type 0
-CallFits (calls.lays cs) = (length cs < 65536) × All (λ c. c < 65536) cs
+CallFits (calls.lays cs) = (length cs < 65536) × AllByRecursion (λ c. c < 65536) cs
 CallFits (calls.moves m) = m < 256
 CallFits calls.shows = Unit {0}
 CallFits calls.solves = Unit {0}

@@ -3,7 +3,7 @@ use Rattle.std.proofs.Common.{◌≡◌, ℕ, suc, ◌+◌, ◌<◌, ◌≤◌, 
 use lib.Utf8.{encode}
 use Rattle.std.proofs.lemmas.Bool.{cases_lt}
 use Rattle.std.proofs.lemmas.Str.{length-encode, len_utf8_bounds}
-use Rattle.std.specs.List.{flat_map, AllByRecursion as All}
+use Rattle.std.specs.List.{flat_map, AllByRecursion}
 use Rattle.std.proofs.ByRecursion.{All-push}
 use Rattle.std.proofs.lemmas.List.{length_push, nil_from_length, flat_map_more}
 use Rattle.frame.specs.declared.sides.Sides.{Sides}
@@ -33,7 +33,7 @@ pub record LinesSeen (text rest cs ls : List ℕ) (w k : ℕ) : Type 0 where
   pub wrong : (e : Fault) → Fails (suc k) rest w (length ls) e → Fails 1 text 0 0 e
   pub cells : cs ≡ flat_map (λ r. r) rows
   pub count : length ls ≡ length rows
-  pub wide : All (λ r. length r ≡ w) rows
+  pub wide : AllByRecursion (λ r. length r ≡ w) rows
   pub range : 0 < length ls → (2 ≤ w) × (w ≤ 16)
   pub tall : length ls ≤ 16
   pub few : k + length rest ≤ length text
@@ -92,7 +92,7 @@ module _ {text rest cs ls : List ℕ} {w k : ℕ} (so_far : LinesSeen text rest 
       longer = ap length el ∙ length_push ls (k + 1) ∙ add-one (length ls)
 
       -- the first row has any width; later ones have that of the first
-      same : GoesOn w (length ls) (length r) → All (λ x. length x ≡ w') so_far.rows
+      same : GoesOn w (length ls) (length r) → AllByRecursion (λ x. length x ≡ w') so_far.rows
       same (inl f) = rw (nil_from_length so_far.rows (omega (arith, so_far.count, f.0))) tt
       same (inr f) = rw (ew ∙ f.2) so_far.wide
 

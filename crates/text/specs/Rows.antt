@@ -4,7 +4,7 @@ use Rattle.std.specs.Str.Lines.{IsFirstLine}
 use Rattle.std.specs.Str.Parse.{IsNumeral, digits_value, without_leading_plus}
 use Rattle.std.specs.Char.{is_whitespace, is_not_whitespace}
 use Rattle.std.specs.Str.{NoCharPasses, EmptyOrStartsWithPassing}
-use Rattle.std.specs.List.{flat_map, AllByRecursion as All}
+use Rattle.std.specs.List.{flat_map, AllByRecursion}
 use Rattle.frame.specs.declared.sides.Sides.{Sides}
 use Rattle.text.specs.declared.fault.Fault.{Fault}
 use Rattle.text.specs.declared.fault.Fault.TheVariants.{Memory, NotANumber, Ragged, Columns, TooFew, TooMany}
@@ -96,6 +96,6 @@ pub data Fails : ℕ → List ℕ → ℕ → ℕ → Fault → Type 0 where
 pub record Written (bs : List ℕ) (s : Sides) (cs ls : List ℕ) : Type 0 where
   pub rows : List (List ℕ)
   pub held : Holds 1 bs rows ls
-  pub wide : All (λ r. length r ≡ s.wide) rows
+  pub wide : AllByRecursion (λ r. length r ≡ s.wide) rows
   pub tall : length rows ≡ s.tall
   pub cells : cs ≡ flat_map (λ r. r) rows
