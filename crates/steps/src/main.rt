@@ -3,6 +3,7 @@
 
 use anyhow::anyhow;
 use std::alloc::Global;
+use std::process::ExitCode;
 use std::{env, fs, io};
 use text::draw::Drawing;
 use text::read::read;
@@ -46,10 +47,10 @@ fn run(rt: &HostRuntime) -> anyhow::Result<()> {
     Ok(())
 }
 
-fn main(rt: HostRuntime) -> anyhow::Result<()> {
+fn main(rt: HostRuntime) -> anyhow::Result<ExitCode> {
     let Err(error) = run(&rt) else {
-        return Ok(());
+        return Ok(ExitCode::SUCCESS);
     };
     eprintln!(rt; "steps: {error}")?;
-    Err(error)
+    Ok(ExitCode::FAILURE)
 }
