@@ -6,7 +6,8 @@ usage: python3 tools/respell.py [FOLDER]     in the repository (or FOLDER), once
 A dash between two words of a name becomes an underscore, and a name that begins with a capital loses its dashes. A dash that joins
 two names, as in `length-twos`, stays (JOINED). A fact, that is a definition whose value is a type, is spelled as a type (FACTS), in the
 files that define or import it. Names of the kit and names that the checker makes of the code are left alone. In .rt files only clauses
-and ghost lines are touched; in Markdown only what stands between backticks. The script stops where two names would fall together.
+and ghost lines are touched; in Markdown only what stands between backticks. The script stops where two words would fall together; of facts
+it looks at nothing of the kind.
 """
 
 import glob
@@ -21,7 +22,7 @@ JOINED = {
     "after-all-++": "after_all-++", "can-all-++": "can_all-++", "times-++": "times_in-++",
     "length-twos": "length-twos", "length-words": "length-words", "length-zeros": "length-zeros",
     "twos-words": "twos-words", "words-twos": "words-twos", "twos-append": "twos-append",
-    "bytes-twos": "Bytes-twos", "bytes-zeros": "Bytes-zeros", "getD-zeros": "get_or-zeros", "getD_words": "get_or-words",
+    "bytes-twos": "Bytes-twos", "bytes-zeros": "Bytes-zeros", "getD-zeros": "get_or-zeros", "get_d_words": "get_or-words",
 }
 
 # Definitions whose value is a type, by the module that defines them.

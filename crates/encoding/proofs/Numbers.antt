@@ -93,15 +93,15 @@ length-words (a ∷ []) = refl
 length-words (a ∷ b ∷ bs) = let h = length-words bs in omega arith
 
 -- each is the number that its two bytes hold
-pub get_d_words : (bs : List ℕ) (i : ℕ) → 2 * i + 1 < length bs → get_or (words bs) i 0 ≡ two_at bs (2 * i)
+pub get_or-words : (bs : List ℕ) (i : ℕ) → 2 * i + 1 < length bs → get_or (words bs) i 0 ≡ two_at bs (2 * i)
 unfolding words
-get_d_words [] i h = absurd (omega arith)
-get_d_words (a ∷ []) i h = absurd (omega arith)
-get_d_words (a ∷ b ∷ bs) zero h = refl
-get_d_words (a ∷ b ∷ bs) (suc i) h =
+get_or-words [] i h = absurd (omega arith)
+get_or-words (a ∷ []) i h = absurd (omega arith)
+get_or-words (a ∷ b ∷ bs) zero h = refl
+get_or-words (a ∷ b ∷ bs) (suc i) h =
     let e : 2 * suc i ≡ suc (suc (2 * i)) = omega arith in
     let f : suc (suc (2 * i)) + 1 ≡ suc (suc (2 * i + 1)) = omega arith in
-    rw (e, f) (get_d_words bs i (omega arith))
+    rw (e, f) (get_or-words bs i (omega arith))
 
 -- one number more: the two bytes behind those of i numbers
 pub twos_more : (ns out : List ℕ) (i a b : ℕ) → i < length ns → 2 * i + 1 < length out → take (2 * i) out ≡ twos (take i ns) →

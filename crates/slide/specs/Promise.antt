@@ -1,4 +1,4 @@
--- What is promised of frames and of the desk. Each capitalised name is a statement, a type whose proof is owed. Assumes nothing.
+-- What is promised of frames and of the desk. Each capitalised name but `Memory`, `Desk` and `AllRight` is a statement, a type whose proof is owed. Assumes nothing.
 use Rattle.std.specs.Prelude.{◌≡◌, ℕ, suc, ◌+◌, ◌-◌, ◌*◌, ◌/◌, ◌%◌, ◌<◌, ◌≤◌, true, ◌≢◌, List, [], ◌∷◌, length, ◌==◌, slice_index, slice_set}
 use Rattle.slide.specs.Tiles.{pick, Frame, can, moved, can_all, after_all, ordered, Brings, sign, proper}
 use Rattle.slide.specs.Calls.{Call, Answer, turned, after, IsRight, home, SolvedBy, bound}
