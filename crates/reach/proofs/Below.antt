@@ -4,10 +4,10 @@ use Rattle.slide.specs.Promise.{apart}
 use Rattle.slide.specs.Tiles.{Frame, at, gap}
 use Rattle.slide.proofs.Proper.{Board}
 use Rattle.slide.proofs.Ways.{Way}
-use Rattle.reach.proofs.Walks.{Walked, walk}
-use Rattle.reach.proofs.Parts.{Image, below, Lifted, Outside}
+use Rattle.reach.proofs.Walks.{walk}
+use Rattle.reach.proofs.Parts.{Image, below, Outside}
 use Rattle.reach.proofs.Restricted.{restrict_image, restrict, restrict_gap, restrict_lift, same}
-use Rattle.reach.proofs.Brings.{Brought, bring}
+use Rattle.reach.proofs.Brings.{bring}
 use Rattle.reach.proofs.Blocks.{Keeps}
 
 -- the first row is not in the part below it
@@ -49,42 +49,33 @@ module _ (w s : ℕ) (w2 : 2 ≤ w) (s2 : 2 ≤ s) (f : Frame) (b : Board w (suc
 
   -- the gap walks, and one tile stays
   pub walk_below : (x y p q : ℕ) → x < s → y < w → q < w → (p ≡ i → q ≡ j → ⊥) → (p ≡ x → q ≡ y → ⊥) → WalkedBelow w s f (apart i x + apart j y + 2) x y p q
-  walk_below x y p q hx hy hq n m = done (walk w s p q hq (restrict (below w s) f) i j x y small.small w2 s2 gap_small hi hj hx hy n m)
-    where
-      done : Walked w s (restrict (below w s) f) (apart i x + apart j y + 2) x y p q → WalkedBelow w s f (apart i x + apart j y + 2) x y p q
-      done r = up (restrict_lift (below w s) f b i j hi hj h r.to (apart i x + apart j y + 2) r.way)
-        where
-          up : Lifted (below w s) same f r.to (apart i x + apart j y + 2) → WalkedBelow w s f (apart i x + apart j y + 2) x y p q
-          up l = record {
-            to = l.to;
-            way = l.way;
-            board = l.image.big;
-            gap = l.image.hole x y hx hy r.gap;
-            kept = λ hp. l.image.cells p q hp hq ∙ r.kept ∙ sym (small.cells p q hp hq);
-            first = λ c hc. l.rest c (outside_below w s c hc);
-          }
+  walk_below x y p q hx hy hq n m =
+      let r = walk w s p q hq (restrict (below w s) f) i j x y small.small w2 s2 gap_small hi hj hx hy n m in
+      let l = restrict_lift (below w s) f b i j hi hj h r.way in
+      record {
+        to = l.to;
+        way = l.way;
+        board = l.image.big;
+        gap = l.image.hole x y hx hy r.gap;
+        kept = λ hp. l.image.cells p q hp hq ∙ r.kept ∙ sym (small.cells p q hp hq);
+        first = λ c hc. l.rest c (outside_below w s c hc);
+      }
 
   -- a tile is brought
   pub bring_below : (u v p q : ℕ) → u < s → v < w → p < s → q < w → (p ≡ i → q ≡ j → ⊥) → BroughtBelow w s f (5 * (apart p u + apart q v) + (apart i p + apart j q)) u v (at f (suc p * w + q))
-  bring_below u v p q hu hv hp hq n = done (bring w s w2 s2 u v hu hv (apart p u + apart q v) (restrict (below w s) f) i j p q small.small gap_small hi hj hp hq n refl)
-    where
-      k : ℕ
-      k = 5 * (apart p u + apart q v) + (apart i p + apart j q)
-
-      done : Brought w s (restrict (below w s) f) k u v (at (restrict (below w s) f) (p * w + q)) → BroughtBelow w s f k u v (at f (suc p * w + q))
-      done r = up (restrict_lift (below w s) f b i j hi hj h r.to k r.way)
-        where
-          up : Lifted (below w s) same f r.to k → BroughtBelow w s f k u v (at f (suc p * w + q))
-          up l = record {
-            to = l.to;
-            way = l.way;
-            board = l.image.big;
-            tile = l.image.cells u v hu hv ∙ r.tile ∙ sym (small.cells p q hp hq);
-            i = r.i;
-            j = r.j;
-            gap = l.image.hole r.i r.j r.row r.col r.gap;
-            row = r.row;
-            col = r.col;
-            off = r.off;
-            first = λ c hc. l.rest c (outside_below w s c hc);
-          }
+  bring_below u v p q hu hv hp hq n =
+      let r = bring w s w2 s2 u v hu hv (apart p u + apart q v) (restrict (below w s) f) i j p q small.small gap_small hi hj hp hq n refl in
+      let l = restrict_lift (below w s) f b i j hi hj h r.way in
+      record {
+        to = l.to;
+        way = l.way;
+        board = l.image.big;
+        tile = l.image.cells u v hu hv ∙ r.tile ∙ sym (small.cells p q hp hq);
+        i = r.i;
+        j = r.j;
+        gap = l.image.hole r.i r.j r.row r.col r.gap;
+        row = r.row;
+        col = r.col;
+        off = r.off;
+        first = λ c hc. l.rest c (outside_below w s c hc);
+      }

@@ -1,9 +1,9 @@
 -- Fixed moves in a block of four or of six cells.
-use Rattle.std.proofs.Common.{◌≡◌, ℕ, suc, ◌+◌, ◌*◌, ◌<◌, ◌≤◌, true, ◌⊎◌, List, [], ◌∷◌, get_or, sym, refl, ap, ◌∙◌, inl, inr, arith, lit<}
+use Rattle.std.proofs.Common.{◌≡◌, ℕ, suc, ◌+◌, ◌*◌, ◌<◌, ◌≤◌, true, List, [], ◌∷◌, get_or, sym, refl, ap, ◌∙◌, inl, inr, arith, lit<}
 use Rattle.std.proofs.lemmas.Bool.{cases_eq}
+use Rattle.std.proofs.lemmas.Nat.{same_from_place}
 use Rattle.slide.specs.Tiles.{Frame, at, gap, gap_in, from, can, can_all, after_all}
 use Rattle.slide.proofs.Proper.{Board}
-use Rattle.slide.proofs.Cells.{pos_same}
 use Rattle.slide.proofs.Ways.{Way}
 use Rattle.reach.proofs.Parts.{Part, block, Lifted, Outside}
 use Rattle.reach.proofs.Restricted.{tabulate, number, named, numbered}
@@ -39,7 +39,7 @@ Keeps k f g = (j : ℕ) → j < k → at g j ≡ at f j
 -- what stands in the first row before the block is not in it
 outside_block : (n a w t c : ℕ) (hw : c + n ≤ w) (ht : a ≤ t) (q : ℕ) → q < c → Outside (block n a w t c hw ht) q
 outside_block n a w t c hw ht q h i j hi hj s =
-    let r = pos_same w 0 q i (c + j) (omega arith) (omega arith) (omega arith) in omega arith
+    let r = same_from_place 0 q i (c + j) w (omega arith) (omega arith) (omega arith) in omega arith
 
 -- in the first two rows and the columns c and c + 1, with the gap in the last of the four cells: the tiles go round
 pub record Turned (w t : ℕ) (f : Frame) (c : ℕ) : Type 0 where
@@ -51,7 +51,7 @@ pub record Turned (w t : ℕ) (f : Frame) (c : ℕ) : Type 0 where
   pub up : at to c ≡ at f (1 * w + c)
   pub down : at to (1 * w + suc c) ≡ at f (suc c)
 
-module _ {n a w t : ℕ} (e : Part n a w t) (f g : Frame) (k : ℕ) (cs : List ℕ) (r : Lifted e (named e f) f g k) (z : g.cells ≡ cs) where
+module _ {n a w t : ℕ} {e : Part n a w t} {f g : Frame} {k : ℕ} {cs : List ℕ} (r : Lifted e (named e f) f g k) (z : g.cells ≡ cs) where
   -- what the numbers of the block say of the tiles, and of the gap
   pub read : (i j : ℕ) → i < a → j < n → (p q : ℕ) → p ≡ e.row i j * w + e.col i j → named e f (get_or cs (i * n + j) 0) ≡ at f q → at r.to p ≡ at f q
   read i j hi hj p q u v = ap (at r.to) u ∙ r.image.cells i j hi hj ∙ ap (λ l. named e f (get_or l (i * n + j) 0)) z ∙ v
@@ -63,23 +63,17 @@ module _ {n a w t : ℕ} (e : Part n a w t) (f g : Frame) (k : ℕ) (cs : List �
 -- up, left, down
 pub turn : (w t : ℕ) (f : Frame) (c : ℕ) → Board w t f → c + 2 ≤ w → 2 ≤ t → gap f ≡ 1 * w + suc c → Turned w t f c
 unfolding gap_in
-turn w t f c b hw ht h = done (numbered e f b 1 1 (lit< tt) (lit< tt) (h ∙ omega arith) (0 ∷ 2 ∷ 1 ∷ []) turn_can)
-  where
-    e : Part 2 2 w t
-    e = block 2 2 w t c hw ht
-
-    end : Frame
-    end = after_all (tabulate 2 2 (number 3)) (0 ∷ 2 ∷ 1 ∷ [])
-
-    done : Lifted e (named e f) f end 3 → Turned w t f c
-    done r = record {
+turn w t f c b hw ht h =
+    let e = block 2 2 w t c hw ht in
+    let r = numbered e f b 1 1 (lit< tt) (lit< tt) (h ∙ omega arith) (0 ∷ 2 ∷ 1 ∷ []) turn_can in
+    record {
       to = r.to;
       way = r.way;
       board = r.image.big;
-      gap = read_gap e f end 3 _ r turn_end 1 0 (lit< tt) (lit< tt) refl (1 * w + c) (omega arith);
+      gap = read_gap r turn_end 1 0 (lit< tt) (lit< tt) refl (1 * w + c) (omega arith);
       keeps = λ j l. r.rest j (outside_block 2 2 w t c hw ht j l);
-      up = read e f end 3 _ r turn_end 0 0 (lit< tt) (lit< tt) c (1 * w + c) (omega arith) (ap (at f) (omega arith));
-      down = read e f end 3 _ r turn_end 1 1 (lit< tt) (lit< tt) (1 * w + suc c) (suc c) (omega arith) (ap (at f) (omega arith));
+      up = read r turn_end 0 0 (lit< tt) (lit< tt) c (1 * w + c) (omega arith) (ap (at f) (omega arith));
+      down = read r turn_end 1 1 (lit< tt) (lit< tt) (1 * w + suc c) (suc c) (omega arith) (ap (at f) (omega arith));
     }
 
 -- in the first three rows and the columns c and c + 1, with the gap in the last of the six cells: the tile above it goes up by one, and that at its left stays
@@ -94,27 +88,18 @@ pub record Cornered (w t : ℕ) (f : Frame) (c : ℕ) : Type 0 where
 -- the eleven moves in any frame of three rows or more
 pub corner : (w t : ℕ) (f : Frame) (c : ℕ) → Board w t f → c + 2 ≤ w → 3 ≤ t → gap f ≡ 2 * w + suc c → Cornered w t f c
 unfolding gap_in
-corner w t f c b hw ht h = done (numbered e f b 2 1 (lit< tt) (lit< tt) (h ∙ omega arith) corner_moves corner_can)
-  where
-    e : Part 2 3 w t
-    e = block 2 3 w t c hw ht
-
-    end : Frame
-    end = after_all (tabulate 2 3 (number 5)) corner_moves
-
-    done : Lifted e (named e f) f end 11 → Cornered w t f c
-    done r = record {
+corner w t f c b hw ht h =
+    let e = block 2 3 w t c hw ht in
+    let r = numbered e f b 2 1 (lit< tt) (lit< tt) (h ∙ omega arith) corner_moves corner_can in
+    let first : (j : ℕ) → j ≡ c → at r.to j ≡ at f j = λ j u. read r corner_end 0 0 (lit< tt) (lit< tt) j j (omega arith) (ap (at f) (omega arith)) in
+    record {
       to = r.to;
       way = r.way;
       board = r.image.big;
-      gap = read_gap e f end 11 _ r corner_end 1 1 (lit< tt) (lit< tt) refl (1 * w + suc c) (omega arith);
-      keeps = λ j l. keep j (cases_eq j c) l;
-      up = read e f end 11 _ r corner_end 0 1 (lit< tt) (lit< tt) (suc c) (1 * w + suc c) (omega arith) (ap (at f) (omega arith));
+      gap = read_gap r corner_end 1 1 (lit< tt) (lit< tt) refl (1 * w + suc c) (omega arith);
+      keeps = λ j l. elim (cases_eq j c) [ inl u ↦ first j u | inr u ↦ r.rest j (outside_block 2 3 w t c hw ht j (omega arith)) ];
+      up = read r corner_end 0 1 (lit< tt) (lit< tt) (suc c) (1 * w + suc c) (omega arith) (ap (at f) (omega arith));
     }
-      where
-        keep : (j : ℕ) → (j ≡ c) ⊎ (j ≡ c → ⊥) → j < suc c → at r.to j ≡ at f j
-        keep j (inl u) l = read e f end 11 _ r corner_end 0 0 (lit< tt) (lit< tt) j j (omega arith) (ap (at f) (omega arith))
-        keep j (inr u) l = r.rest j (outside_block 2 3 w t c hw ht j (omega arith))
 
 -- ---- four cells, the gap in the last: the three tiles go round by one
 rot_can : can_all (tabulate 2 2 (number 3)) (0 ∷ 2 ∷ 1 ∷ 3 ∷ []) ≡ true
@@ -138,20 +123,14 @@ pub record Round (f : Frame) : Type 0 where
 -- the four moves in any frame of two by two
 pub round : (f : Frame) → Board 2 2 f → gap f ≡ 3 → Round f
 unfolding gap_in
-round f b h = done (numbered e f b 1 1 (lit< tt) (lit< tt) h (0 ∷ 2 ∷ 1 ∷ 3 ∷ []) rot_can)
-  where
-    e : Part 2 2 2 2
-    e = block 2 2 2 2 0 (omega arith) (omega arith)
-
-    end : Frame
-    end = after_all (tabulate 2 2 (number 3)) (0 ∷ 2 ∷ 1 ∷ 3 ∷ [])
-
-    done : Lifted e (named e f) f end 4 → Round f
-    done r = record {
+round f b h =
+    let e = block 2 2 2 2 0 (omega arith) (omega arith) in
+    let r = numbered e f b 1 1 (lit< tt) (lit< tt) h (0 ∷ 2 ∷ 1 ∷ 3 ∷ []) rot_can in
+    record {
       to = r.to;
       way = r.way;
       board = r.image.big;
-      gap = read_gap e f end 4 _ r rot_end 1 1 (lit< tt) (lit< tt) refl 3 refl;
-      c0 = read e f end 4 _ r rot_end 0 0 (lit< tt) (lit< tt) 0 2 refl refl;
-      c2 = read e f end 4 _ r rot_end 1 0 (lit< tt) (lit< tt) 2 1 refl refl;
+      gap = read_gap r rot_end 1 1 (lit< tt) (lit< tt) refl 3 refl;
+      c0 = read r rot_end 0 0 (lit< tt) (lit< tt) 0 2 refl refl;
+      c2 = read r rot_end 1 0 (lit< tt) (lit< tt) 2 1 refl refl;
     }

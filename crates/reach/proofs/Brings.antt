@@ -30,14 +30,18 @@ pub record Pushed (w t : ℕ) (f : Frame) (k p q u v : ℕ) : Type 0 where
   pub tile : at to (u * w + v) ≡ at f (p * w + q)
   pub gap : gap to ≡ p * w + q
 
+-- the two cells of a step are one apart, and neither is farther from a third than the other by more than one
+step_apart : {w t : ℕ} {d : Dir} {x y p q : ℕ} → Next w t d x y p q → (i j : ℕ) → (apart p x + apart q y ≡ 1) × (apart i x + apart j y ≤ apart i p + apart j q + 1)
+step_apart n i j = grind arith
+
 module _ (w t : ℕ) (w2 : 2 ≤ w) (t2 : 2 ≤ t) where
   -- one cell on, from row p and column q to row u and column v: the gap goes there, and then the other way
   pub push : (f : Frame) (d : Dir) (i j p q u v : ℕ) → Board w t f → gap f ≡ i * w + j → i < t → j < w → (p ≡ i → q ≡ j → ⊥) → Next w t d u v p q →
       Pushed w t f (apart i u + apart j v + 3) p q u v
   push f d i j p q u v b e hi hj ne n =
-      let l = next_in w t d u v p q n in
-      let r = walk w t p q l.1 f i j u v b w2 t2 e hi hj l.2 l.3 ne (λ a c. next_ne w t d u v p q n (sym a) (sym c)) in
-      let g = go w t r.to d u v p q r.board r.gap n in
+      let l = next_in n in
+      let r = walk w t p q l.1 f i j u v b w2 t2 e hi hj l.2 l.3 ne (λ a c. next_ne n (sym a) (sym c)) in
+      let g = go r.board r.gap n in
       record {
         to = moved r.to (num d);
         way = longer {g = moved r.to (num d)} (omega arith) (then r.way g.way);
@@ -61,14 +65,15 @@ module _ (w t : ℕ) (w2 : 2 ≤ w) (t2 : 2 ≤ t) where
         Goal = Brought w t f (5 * suc δ + (apart i p + apart j q)) u v (at f (p * w + q))
 
         -- after one step to row x and column y
-        on : (d : Dir) (x y : ℕ) → Next w t d x y p q → apart x u + apart y v ≡ δ → (apart i x + apart j y ≤ apart i p + apart j q + 1) → (apart p x + apart q y ≡ 1) → Goal
-        on d x y n a c o =
+        on : (d : Dir) (x y : ℕ) → Next w t d x y p q → apart x u + apart y v ≡ δ → Goal
+        on d x y n a =
             let s = push f d i j p q x y b e hi hj ne n in
-            let l = next_in w t d x y p q n in
-            let r = ih s.to p q x y s.board s.gap hp hq l.2 l.3 (next_ne w t d x y p q n) a in
+            let l = next_in n in
+            let o = step_apart n i j in
+            let r = ih s.to p q x y s.board s.gap hp hq l.2 l.3 (next_ne n) a in
             record {
               to = r.to;
-              way = longer (omega arith) (then s.way r.way);
+              way = longer (omega (arith, o.0, o.1)) (then s.way r.way);
               board = r.board;
               tile = r.tile ∙ s.tile;
               i = r.i;
@@ -80,10 +85,10 @@ module _ (w t : ℕ) (w2 : 2 ≤ w) (t2 : 2 ≤ t) where
             }
 
         by : (q ≡ v) ⊎ ((q < v) ⊎ (v < q)) → (p ≡ u) ⊎ ((p < u) ⊎ (u < p)) → Goal
-        by (inr (inl a)) _ = on L p (suc q) (omega arith) (omega arith) (omega arith) (omega arith)
-        by (inr (inr a)) _ = on R p (q - 1) (omega arith) (omega arith) (omega arith) (omega arith)
-        by (inl a) (inr (inl c)) = on U (suc p) q (omega arith) (omega arith) (omega arith) (omega arith)
-        by (inl a) (inr (inr c)) = on D (p - 1) q (omega arith) (omega arith) (omega arith) (omega arith)
+        by (inr (inl a)) _ = on L p (suc q) (omega arith) (omega arith)
+        by (inr (inr a)) _ = on R p (q - 1) (omega arith) (omega arith)
+        by (inl a) (inr (inl c)) = on U (suc p) q (omega arith) (omega arith)
+        by (inl a) (inr (inr c)) = on D (p - 1) q (omega arith) (omega arith)
         by (inl a) (inl c) = absurd (omega arith)
 
     -- all the way

@@ -1,11 +1,11 @@
 -- The first row is filled, and so what solves a row less solves all; rows for columns.
-use Rattle.std.proofs.Common.{◌≡◌, ℕ, zero, suc, ◌+◌, ◌-◌, ◌*◌, ◌<◌, ◌≤◌, true, ◌≢◌, ◌⊎◌, List, [], ◌∷◌, sym, refl, ap, ◌∙◌, subst, inl, inr, suc-mul, arith}
-use Rattle.std.proofs.lemmas.Bool.{cases_eq, cases_lt, and_parts}
-use Rattle.slide.specs.Tiles.{Frame, at, gap, moved, can, can_all, after_all}
-use Rattle.slide.proofs.Moves.{Went, went_zero, Step, step, step_in, step_went}
+use Rattle.std.proofs.Common.{◌≡◌, ℕ, zero, suc, ◌+◌, ◌-◌, ◌*◌, ◌<◌, ◌≤◌, true, ◌≢◌, ◌⊎◌, sym, refl, ap, ◌∙◌, inl, inr, arith}
+use Rattle.std.proofs.lemmas.Bool.{cases_eq, cases_lt}
+use Rattle.slide.specs.Tiles.{Frame, at, gap, moved, can}
+use Rattle.slide.proofs.Moves.{Went, went_zero, step, step_in, step_went}
 use Rattle.slide.proofs.Proper.{Board}
 use Rattle.slide.proofs.Cells.{Cell, cell}
-use Rattle.slide.proofs.Ways.{Way, stay, then, longer}
+use Rattle.slide.proofs.Ways.{Way, stay, then, longer, along}
 use Rattle.slide.proofs.Gap.{gap_zero}
 use Rattle.reach.proofs.Parts.{below, across}
 use Rattle.reach.proofs.Place.{Placed, place}
@@ -13,35 +13,26 @@ use Rattle.reach.proofs.Solve.{Holds, Full, Solved, Solves, Within, Beyond, solv
 
 -- ---- what a frame holds it holds after a way
 went_holds : {w t : ℕ} {f g : Frame} {i j x y v : ℕ} → i < t → j < w → x < t → y < w → gap f ≡ i * w + j → Went w t f i j x y g → Holds w t f v → Holds w t g v
-went_holds {w} {t} {f} {g} {i} {j} {x} {y} {v} hi hj hx hy e r h = by (cases_eq (h.row * w + h.col) (i * w + j)) (cases_eq (h.row * w + h.col) (x * w + y))
-  where
-    by : (h.row * w + h.col ≡ i * w + j) ⊎ (h.row * w + h.col ≡ i * w + j → ⊥) → (h.row * w + h.col ≡ x * w + y) ⊎ (h.row * w + h.col ≡ x * w + y → ⊥) → Holds w t g v
-    by (inl a) _ = record { row = x; col = y; below = hx; within = hy; is = went_zero r ∙ sym (gap_zero f.cells) ∙ ap (at f) (e ∙ sym a) ∙ h.is }
-    by (inr a) (inl b) = record { row = i; col = j; below = hi; within = hj; is = r.swap ∙ ap (at f) (sym b) ∙ h.is }
-    by (inr a) (inr b) = record { row = h.row; col = h.col; below = h.below; within = h.within; is = r.rest (h.row * w + h.col) a b ∙ h.is }
+went_holds {w} {t} {f} {g} {i} {j} {x} {y} {v} hi hj hx hy e r h =
+    elim (cases_eq (h.row * w + h.col) (i * w + j)) [
+      | inl a ↦ record { row = x; col = y; below = hx; within = hy; is = went_zero r ∙ sym (gap_zero f.cells) ∙ ap (at f) (e ∙ sym a) ∙ h.is }
+      | inr a ↦ elim (cases_eq (h.row * w + h.col) (x * w + y)) [
+        | inl b ↦ record { row = i; col = j; below = hi; within = hj; is = r.swap ∙ ap (at f) (sym b) ∙ h.is }
+        | inr b ↦ record { row = h.row; col = h.col; below = h.below; within = h.within; is = r.rest (h.row * w + h.col) a b ∙ h.is }
+      ]
+    ]
 
 -- after a move that can be made
-moved_holds : (w t : ℕ) (f : Frame) (m v : ℕ) → Board w t f → can f m ≡ true → Board w t (moved f m) × (Holds w t f v → Holds w t (moved f m) v)
-moved_holds w t f m v b c = done (step w t f m b c)
-  where
-    done : Step w t f m → Board w t (moved f m) × (Holds w t f v → Holds w t (moved f m) v)
-    done d =
-        let k = step_in d in
-        let r = step_went w t f m b d in
-        (r.board, λ h. went_holds k.2 k.3 k.0 k.1 d.gap r h)
-
--- after moves that can be made one after the other
-all_holds : (w t : ℕ) (f : Frame) (ms : List ℕ) (v : ℕ) → Board w t f → can_all f ms ≡ true → Holds w t f v → Holds w t (after_all f ms) v
-unfolding can_all after_all
-all_holds w t f [] v b c h = h
-all_holds w t f (m ∷ ms) v b c h =
-    let k = and_parts _ _ c in
-    let r = moved_holds w t f m v b k.0 in
-    all_holds w t (moved f m) ms v r.0 k.1 (r.1 h)
+moved_holds : (w t : ℕ) (f : Frame) (m v : ℕ) → Board w t f × Holds w t f v → can f m ≡ true → Board w t (moved f m) × Holds w t (moved f m) v
+moved_holds w t f m v p c =
+    let d = step f m p.0 c in
+    let k = step_in d in
+    let r = step_went p.0 d in
+    (r.board, went_holds k.2 k.3 k.0 k.1 d.gap r p.1)
 
 -- after a way
 way_holds : {w t : ℕ} {f g : Frame} {n v : ℕ} → Board w t f → Way f n g → Holds w t f v → Holds w t g v
-way_holds {w} {t} {f} {g} {n} {v} b r h = subst (λ k. Holds w t k v) r.end (all_holds w t f r.ms v b r.can h)
+way_holds {w} {t} {f} {g} {n} {v} b r h = (along (λ k. Board w t k × Holds w t k v) (λ k m. moved_holds w t k m v) (b, h) r).1
 
 -- so a target stays one
 pub way_full : {w t : ℕ} {f g : Frame} {n : ℕ} {T : ℕ → ℕ → ℕ} → Board w t f → Way f n g → Full w t f T → Full w t g T
@@ -66,89 +57,72 @@ module _ (w s : ℕ) (w2 : 2 ≤ w) (s2 : 2 ≤ s) (T : ℕ → ℕ → ℕ) whe
   first_tile f u j hj z =
       let r = u.apart 0 j s (w - 1) (omega arith) hj (omega arith) (omega arith) (z ∙ sym (u.last s (w - 1) refl (omega arith))) in omega (arith, r.0)
 
-  -- one cell more
+  -- one cell more: its tile, and the gap, are past the first k cells
   fill_one : (f : Frame) (k n : ℕ) → k < w → Filled w (suc s) f n k T → Filled w (suc s) f (n + 7 * (w + suc s)) (suc k) T
-  fill_one f k n hk r = done (r.full.occurs 0 k (omega arith) hk) (gap_cell w (suc s) r.to r.board)
+  fill_one f k n hk r = end (place w s w2 s2 k hk r.to g.row g.col h.row h.col r.board g.is g.below g.within h.below h.within off far_on gap_on)
     where
-      row_zero : (x y : ℕ) → x ≡ 0 → x * w + y ≡ y
-      row_zero x y e = let z : x * w ≡ 0 * w = ap (λ p. p * w) e in omega arith
+      h : Holds w (suc s) r.to (T 0 k)
+      h = r.full.occurs 0 k (omega arith) hk
 
-      done : Holds w (suc s) r.to (T 0 k) → Cell w (suc s) (gap r.to) → Filled w (suc s) f (n + 7 * (w + suc s)) (suc k) T
-      done h g = end (place w s w2 s2 k hk r.to g.row g.col h.row h.col r.board g.is g.below g.within h.below h.within off far_on gap_on)
-        where
-          zero_there : at r.to (g.row * w + g.col) ≡ 0
-          zero_there = ap (at r.to) (sym g.is) ∙ gap_zero r.to.cells
+      g : Cell w (suc s) (gap r.to)
+      g = gap_cell w (suc s) r.to r.board
 
-          off : h.row ≡ g.row → h.col ≡ g.col → ⊥
-          off a b = first_tile r.to r.full k hk (sym h.is ∙ rw (a, b) zero_there)
+      in_front : (x y v : ℕ) → x ≡ 0 → y < k → at r.to (x * w + y) ≡ v → T 0 y ≡ v
+      in_front x y v a l e = let o : y ≡ x * w + y = rw a (omega arith) in sym (r.front y l) ∙ ap (at r.to) o ∙ e
 
-          far_on : h.row ≡ 0 → k ≤ h.col
-          far_on a = by (cases_lt h.col k)
-            where
-              by : (h.col < k) ⊎ (k ≤ h.col) → k ≤ h.col
-              by (inr l) = l
-              by (inl l) =
-                  let z = r.full.apart 0 h.col 0 k (omega arith) h.within (omega arith) hk (sym (r.front h.col l) ∙ ap (at r.to) (sym (row_zero h.row h.col a)) ∙ h.is) in
-                  omega (arith, z.1)
+      zero_there : at r.to (g.row * w + g.col) ≡ 0
+      zero_there = ap (at r.to) (sym g.is) ∙ gap_zero r.to.cells
 
-          gap_on : g.row ≡ 0 → k ≤ g.col
-          gap_on a = by (cases_lt g.col k)
-            where
-              by : (g.col < k) ⊎ (k ≤ g.col) → k ≤ g.col
-              by (inr l) = l
-              by (inl l) = absurd (first_tile r.to r.full g.col g.within (sym (r.front g.col l) ∙ ap (at r.to) (sym (row_zero g.row g.col a)) ∙ zero_there))
+      off : h.row ≡ g.row → h.col ≡ g.col → ⊥
+      off a b = first_tile r.to r.full k hk (sym h.is ∙ rw (a, b) zero_there)
 
-          end : Placed w (suc s) r.to (7 * (w + suc s)) k (at r.to (h.row * w + h.col)) → Filled w (suc s) f (n + 7 * (w + suc s)) (suc k) T
-          end z = record {
-            to = z.to;
-            way = then r.way z.way;
-            board = z.board;
-            full = way_full r.board z.way r.full;
-            front = λ j l. cells j (cases_eq j k) l;
-          }
-            where
-              cells : (j : ℕ) → (j ≡ k) ⊎ (j ≡ k → ⊥) → j < suc k → at z.to j ≡ T 0 j
-              cells j (inl e) l = rw e (z.tile ∙ h.is)
-              cells j (inr e) l = z.keeps j (omega arith) ∙ r.front j (omega arith)
+      far_on : h.row ≡ 0 → k ≤ h.col
+      far_on a =
+          elim (cases_lt h.col k) [
+            | inl l ↦ let z = r.full.apart 0 h.col 0 k (omega arith) h.within (omega arith) hk (in_front h.row h.col (T 0 k) a l h.is) in omega (arith, z.1)
+            | inr l ↦ l
+          ]
+
+      gap_on : g.row ≡ 0 → k ≤ g.col
+      gap_on a =
+          elim (cases_lt g.col k) [
+            | inl l ↦ absurd (first_tile r.to r.full g.col g.within (in_front g.row g.col 0 a l zero_there))
+            | inr l ↦ l
+          ]
+
+      end : Placed w (suc s) r.to (7 * (w + suc s)) k (at r.to (h.row * w + h.col)) → Filled w (suc s) f (n + 7 * (w + suc s)) (suc k) T
+      end z = record {
+        to = z.to;
+        way = then r.way z.way;
+        board = z.board;
+        full = way_full r.board z.way r.full;
+        front = λ j l. elim (cases_eq j k) [ inl e ↦ rw e (z.tile ∙ h.is) | inr e ↦ z.keeps j (omega arith) ∙ r.front j (omega arith) ];
+      }
 
   -- the first k cells of the first row, one after the other
   pub fill : (f : Frame) (k : ℕ) → k ≤ w → Board w (suc s) f → Full w (suc s) f T → Filled w (suc s) f (k * (7 * (w + suc s))) k T
   fill f zero h b u = record { to = f; way = longer (omega arith) (stay f); board = b; full = u; front = λ j l. absurd (omega arith) }
-  fill f (suc k) h b u = done (fill_one f k (k * (7 * (w + suc s))) h (fill f k (omega arith) b u))
-    where
-      done : Filled w (suc s) f (k * (7 * (w + suc s)) + 7 * (w + suc s)) (suc k) T → Filled w (suc s) f (suc k * (7 * (w + suc s))) (suc k) T
-      done r = record { to = r.to; way = longer (omega (arith, suc-mul k (7 * (w + suc s)))) r.way; board = r.board; full = r.full; front = r.front }
+  fill f (suc k) h b u =
+      let r = fill_one f k (k * (7 * (w + suc s))) h (fill f k (omega arith) b u) in
+      record { to = r.to; way = longer (omega arith) r.way; board = r.board; full = r.full; front = r.front }
 
 -- ---- a row less
 -- a way, and then the target
 pub solved_after : {w t : ℕ} {f g : Frame} {m n : ℕ} {T : ℕ → ℕ → ℕ} (k : ℕ) → m + n ≤ k → Way f m g → Solved w t g n T → Solved w t f k T
-solved_after k l v r = record {
-  to = r.to;
-  way = longer l (then v r.way);
-  board = r.board;
-  ai = r.ai;
-  aj = r.aj;
-  bi = r.bi;
-  bj = r.bj;
-  in_a = r.in_a;
-  in_b = r.in_b;
-  at_a = r.at_a;
-  at_b = r.at_b;
-  rest = r.rest;
-  kind = r.kind;
-}
+solved_after k l v r = record { to = r.to; way = longer l (then v r.way); nearly = r.nearly }
 
 -- what solves a frame with a row less, after the first row is filled, solves all
 pub row_less : (w s n k : ℕ) → 2 ≤ w → 2 ≤ s → w * (7 * (w + suc s)) + n ≤ k → Solves w s n → Solves w (suc s) k
-row_less w s n k w2 s2 l solve f T b u = done (fill w s w2 s2 T f w (omega arith) b u)
+row_less w s n k w2 s2 l solve f T b u =
+    solved_after k l r.way
+    (solve_part (below w s) (omega arith) (omega arith) (λ i j p q. omega arith) r.to T r.board r.full cover n solve (gap_cell w (suc s) r.to r.board))
   where
-    done : Filled w (suc s) f (w * (7 * (w + suc s))) w T → Solved w (suc s) f k T
-    done r = solved_after k l r.way
-        (solve_part (below w s) (omega arith) (omega arith) (λ i j p q. omega arith) r.to T r.board r.full cover n solve (gap_cell w (suc s) r.to r.board))
-      where
-        cover : (x y : ℕ) → x < suc s → y < w → (Within (below w s) x y) ⊎ (Beyond (below w s) x y × (at r.to (x * w + y) ≡ T x y))
-        cover zero y hx hy = inr (λ i j hi hj p q. omega arith, ap (at r.to) (omega arith) ∙ r.front y hy)
-        cover (suc x) y hx hy = inl (record { i = x; j = y; below = omega arith; within = hy; row = refl; col = refl })
+    r : Filled w (suc s) f (w * (7 * (w + suc s))) w T
+    r = fill w s w2 s2 T f w (omega arith) b u
+
+    cover : (x y : ℕ) → x < suc s → y < w → (Within (below w s) x y) ⊎ (Beyond (below w s) x y × (at r.to (x * w + y) ≡ T x y))
+    cover zero y hx hy = inr (λ i j hi hj p q. omega arith, ap (at r.to) (omega arith) ∙ r.front y hy)
+    cover (suc x) y hx hy = inl (record { i = x; j = y; below = omega arith; within = hy; row = refl; col = refl })
 
 -- ---- rows for columns
 -- what solves a frame with rows for columns solves it

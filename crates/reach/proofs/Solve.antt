@@ -22,21 +22,26 @@ pub record Full (w t : ℕ) (f : Frame) (T : ℕ → ℕ → ℕ) : Type 0 where
   pub apart : (i j x y : ℕ) → i < t → j < w → x < t → y < w → T i j ≡ T x y → (i ≡ x) × (j ≡ y)
   pub last : (i j : ℕ) → suc i ≡ t → suc j ≡ w → T i j ≡ 0
 
--- the target, but for two tiles exchanged, in rows ai and bi and columns aj and bj, unless these are the same
-pub record Solved (w t : ℕ) (f : Frame) (n : ℕ) (T : ℕ → ℕ → ℕ) : Type 0 where
-  pub to : Frame
-  pub way : Way f n to
-  pub board : Board w t to
+-- g is the target but for two tiles exchanged, in rows ai and bi and columns aj and bj, unless these are the same
+pub record Nearly (w t : ℕ) (g : Frame) (T : ℕ → ℕ → ℕ) : Type 0 where
+  pub board : Board w t g
   pub ai : ℕ
   pub aj : ℕ
   pub bi : ℕ
   pub bj : ℕ
   pub in_a : (ai < t) × (aj < w)
   pub in_b : (bi < t) × (bj < w)
-  pub at_a : at to (ai * w + aj) ≡ T bi bj
-  pub at_b : at to (bi * w + bj) ≡ T ai aj
-  pub rest : (i j : ℕ) → i < t → j < w → (i ≡ ai → j ≡ aj → ⊥) → (i ≡ bi → j ≡ bj → ⊥) → at to (i * w + j) ≡ T i j
+  pub at_a : at g (ai * w + aj) ≡ T bi bj
+  pub at_b : at g (bi * w + bj) ≡ T ai aj
+  pub rest : (i j : ℕ) → i < t → j < w → (i ≡ ai → j ≡ aj → ⊥) → (i ≡ bi → j ≡ bj → ⊥) → at g (i * w + j) ≡ T i j
   pub kind : ((ai ≡ bi) × (aj ≡ bj)) ⊎ ((T ai aj ≢ 0) × (T bi bj ≢ 0))
+
+-- f is brought to such a frame in n moves or fewer
+pub record Solved (w t : ℕ) (f : Frame) (n : ℕ) (T : ℕ → ℕ → ℕ) : Type 0 where
+  pub to : Frame
+  pub way : Way f n to
+  pub nearly : Nearly w t to T
+  pub open nearly use *
 
 -- every frame of that size is brought to every target, up to one exchange, in n moves
 abbrev pub Solves : ℕ → ℕ → ℕ → Type 0
@@ -64,19 +69,19 @@ module _ {n a w t : ℕ} (e : Part n a w t) (n0 : 0 < n) (a0 : 0 < a) (end : (i 
     (f : Frame) (T : ℕ → ℕ → ℕ) (b : Board w t f) (u : Full w t f T)
     (cover : (x y : ℕ) → x < t → y < w → (Within e x y) ⊎ (Beyond e x y × (at f (x * w + y) ≡ T x y))) where
   -- what the part must become
-  part_target : ℕ → ℕ → ℕ
+  abbrev part_target : ℕ → ℕ → ℕ
   part_target i j = T (e.row i j) (e.col i j)
 
   -- a cell that holds a tile of the part's target is in the part
   found : (i j : ℕ) → i < a → j < n → (h : Holds w t f (T (e.row i j) (e.col i j))) → Within e h.row h.col
-  found i j hi hj h = by (cover h.row h.col h.below h.within)
-    where
-      by : (Within e h.row h.col) ⊎ (Beyond e h.row h.col × (at f (h.row * w + h.col) ≡ T h.row h.col)) → Within e h.row h.col
-      by (inl r) = r
-      by (inr r) =
-          let k = e.inside i j hi hj in
-          let s = u.apart h.row h.col (e.row i j) (e.col i j) h.below h.within k.0 k.1 (sym r.1 ∙ h.is) in
-          absurd (r.0 i j hi hj s.0 s.1)
+  found i j hi hj h =
+      elim (cover h.row h.col h.below h.within) [
+        | inl r ↦ r
+        | inr r ↦
+            let k = e.inside i j hi hj in
+            let s = u.apart h.row h.col (e.row i j) (e.col i j) h.below h.within k.0 k.1 (sym r.1 ∙ h.is) in
+            absurd (r.0 i j hi hj s.0 s.1)
+      ]
 
   -- the gap is in the part
   gap_within : (c : Cell w t (gap f)) → Within e c.row c.col
@@ -96,7 +101,6 @@ module _ {n a w t : ℕ} (e : Part n a w t) (n0 : 0 < n) (a0 : 0 < a) (end : (i 
     image = restrict_image e f b gi gj hi hj h
 
     part_full : Full n a (restrict e f) part_target
-    unfolding part_target
     part_full = record {
       occurs = λ i j li lj.
           let k = e.inside i j li lj in
@@ -107,7 +111,7 @@ module _ {n a w t : ℕ} (e : Part n a w t) (n0 : 0 < n) (a0 : 0 < a) (end : (i 
             col = v.j;
             below = v.below;
             within = v.within;
-            is = sym (image.cells v.i v.j v.below v.within) ∙ sym (ap (λ x. at f (x * w + e.col v.i v.j)) v.row) ∙ sym (ap (λ y. at f (o.row * w + y)) v.col) ∙ o.is;
+            is = sym (image.cells v.i v.j v.below v.within) ∙ rw (← v.row, ← v.col) o.is;
           };
       apart = λ i j x y li lj lx ly s.
           let k = e.inside i j li lj in
@@ -117,45 +121,39 @@ module _ {n a w t : ℕ} (e : Part n a w t) (n0 : 0 < n) (a0 : 0 < a) (end : (i 
       last = λ i j p q. let z = end i j p q in u.last (e.row i j) (e.col i j) z.0 z.1;
     }
 
-    solved_part : (k : ℕ) → Solved n a (restrict e f) k part_target → Solved w t f k T
-    unfolding part_target
-    solved_part k r = done (restrict_lift e f b gi gj hi hj h r.to k r.way)
-      where
-        done : Lifted e same f r.to k → Solved w t f k T
-        done l = record {
-          to = l.to;
-          way = l.way;
-          board = l.image.big;
-          ai = e.row r.ai r.aj;
-          aj = e.col r.ai r.aj;
-          bi = e.row r.bi r.bj;
-          bj = e.col r.bi r.bj;
-          in_a = e.inside r.ai r.aj r.in_a.0 r.in_a.1;
-          in_b = e.inside r.bi r.bj r.in_b.0 r.in_b.1;
-          at_a = l.image.cells r.ai r.aj r.in_a.0 r.in_a.1 ∙ r.at_a;
-          at_b = l.image.cells r.bi r.bj r.in_b.0 r.in_b.1 ∙ r.at_b;
-          rest = λ x y hx hy na nb. cells x y hy na nb (cover x y hx hy);
-          kind = kinds r.kind;
-        }
-          where
-            cells : (x y : ℕ) → y < w → (x ≡ e.row r.ai r.aj → y ≡ e.col r.ai r.aj → ⊥) → (x ≡ e.row r.bi r.bj → y ≡ e.col r.bi r.bj → ⊥) →
-                (Within e x y) ⊎ (Beyond e x y × (at f (x * w + y) ≡ T x y)) → at l.to (x * w + y) ≡ T x y
-            cells x y hy na nb (inl v) =
+    -- once it is its target, all is
+    nearly_all : (g : Frame) (k : ℕ) (l : Lifted e same f g k) → Nearly n a g part_target → Nearly w t l.to T
+    nearly_all g k l r = record {
+      board = l.image.big;
+      ai = e.row r.ai r.aj;
+      aj = e.col r.ai r.aj;
+      bi = e.row r.bi r.bj;
+      bj = e.col r.bi r.bj;
+      in_a = e.inside r.ai r.aj r.in_a.0 r.in_a.1;
+      in_b = e.inside r.bi r.bj r.in_b.0 r.in_b.1;
+      at_a = l.image.cells r.ai r.aj r.in_a.0 r.in_a.1 ∙ r.at_a;
+      at_b = l.image.cells r.bi r.bj r.in_b.0 r.in_b.1 ∙ r.at_b;
+      rest = λ x y hx hy na nb.
+          elim (cover x y hx hy) [
+            | inl v ↦
                 rw (v.row, v.col)
                 (l.image.cells v.i v.j v.below v.within
                 ∙ r.rest v.i v.j v.below v.within
                 (λ p q. na (v.row ∙ rw (p, q) refl) (v.col ∙ rw (p, q) refl)) (λ p q. nb (v.row ∙ rw (p, q) refl) (v.col ∙ rw (p, q) refl)))
-            cells x y hy na nb (inr v) = l.rest (x * w + y) (beyond_outside e x y hy v.0) ∙ v.1
+            | inr v ↦ l.rest (x * w + y) (beyond_outside e x y hy v.0) ∙ v.1
+          ];
+      kind = elim (r.kind) [ inl k ↦ inl (rw (k.0, k.1) refl, rw (k.0, k.1) refl) | inr k ↦ inr k ];
+    }
 
-            kinds : ((r.ai ≡ r.bi) × (r.aj ≡ r.bj)) ⊎ ((T (e.row r.ai r.aj) (e.col r.ai r.aj) ≢ 0) × (T (e.row r.bi r.bj) (e.col r.bi r.bj) ≢ 0)) →
-                ((e.row r.ai r.aj ≡ e.row r.bi r.bj) × (e.col r.ai r.aj ≡ e.col r.bi r.bj)) ⊎ ((T (e.row r.ai r.aj) (e.col r.ai r.aj) ≢ 0) × (T (e.row r.bi r.bj) (e.col r.bi r.bj) ≢ 0))
-            kinds (inl k) = inl (rw (k.0, k.1) refl, rw (k.0, k.1) refl)
-            kinds (inr k) = inr k
+    solved_part : (k : ℕ) → Solved n a (restrict e f) k part_target → Solved w t f k T
+    solved_part k r =
+        let l = restrict_lift e f b gi gj hi hj h r.way in
+        record { to = l.to; way = l.way; nearly = nearly_all r.to k l r.nearly }
 
   -- the part solved, all is
   pub solve_part : (k : ℕ) → Solves n a k → (c : Cell w t (gap f)) → Solved w t f k T
   solve_part k s c =
       let v = gap_within c in
-      let h : gap f ≡ e.row v.i v.j * w + e.col v.i v.j = c.is ∙ ap (λ x. x * w + c.col) v.row ∙ ap (λ y. e.row v.i v.j * w + y) v.col in
+      let h : gap f ≡ e.row v.i v.j * w + e.col v.i v.j = rw (← v.row, ← v.col) c.is in
       solved_part v.i v.j v.below v.within h k
       (s (restrict e f) part_target (image v.i v.j v.below v.within h).small (part_full v.i v.j v.below v.within h))

@@ -32,8 +32,8 @@ module _ (w t p q : ℕ) (hq : q < w) where
   run d zero f ρ κ b e n a = record { to = f; way = stay f; board = b; gap = e; kept = refl }
   run d (suc k) f ρ κ b e n a =
       let n0 = n 0 (omega arith) in
-      let g = go w t f d (ρ 0) (κ 0) (ρ 1) (κ 1) b e n0 in
-      let i = next_in w t d (ρ 0) (κ 0) (ρ 1) (κ 1) n0 in
+      let g = go b e n0 in
+      let i = next_in n0 in
       let r = run d k (moved f (num d)) (λ s. ρ (suc s)) (λ s. κ (suc s)) g.board g.gap (λ s l. n (suc s) (omega arith)) (λ s l. a (suc s) (omega arith)) in
       let off_first = pos_apart w p q (ρ 0) (κ 0) hq i.3 (a 0 (omega arith)) in
       let off_second = pos_apart w p q (ρ 1) (κ 1) hq i.1 (a 1 (omega arith)) in
@@ -49,19 +49,21 @@ module _ (w t p q : ℕ) (hq : q < w) where
 
   -- along a column
   pub upright : (f : Frame) (i j x : ℕ) → Board w t f → gap f ≡ i * w + j → i < t → j < w → x < t → q ≢ j → Walked w t f (apart i x) x j p q
-  upright f i j x b e hi hj hx a = by (cases_lt i x)
-    where
-      by : (i < x) ⊎ (x ≤ i) → Walked w t f (apart i x) x j p q
-      by (inl l) = at_end (omega arith) refl (omega arith) (run D (x - i) f (λ s. i + s) (λ s. j) b (rw e (omega arith)) (λ s l. omega arith) (λ s l c d. a d))
-      by (inr l) = at_end (omega arith) refl (omega arith) (run U (i - x) f (λ s. i - s) (λ s. j) b (let z : i ≡ i - 0 = omega arith in rw (← z) e) (λ s l. omega arith) (λ s l c d. a d))
+  upright f i j x b e hi hj hx a =
+      elim (cases_lt i x) [
+        | inl l ↦ at_end (omega arith) refl (omega arith) (run D (x - i) f (λ s. i + s) (λ s. j) b (rw e (omega arith)) (λ s l. omega arith) (λ s l c d. a d))
+        | inr l ↦
+            let z : i ≡ i - 0 = omega arith in
+            at_end (omega arith) refl (omega arith) (run U (i - x) f (λ s. i - s) (λ s. j) b (rw (← z) e) (λ s l. omega arith) (λ s l c d. a d))
+      ]
 
   -- along a row
   pub level : (f : Frame) (i j y : ℕ) → Board w t f → gap f ≡ i * w + j → i < t → j < w → y < w → p ≢ i → Walked w t f (apart j y) i y p q
-  level f i j y b e hi hj hy a = by (cases_lt j y)
-    where
-      by : (j < y) ⊎ (y ≤ j) → Walked w t f (apart j y) i y p q
-      by (inl l) = at_end refl (omega arith) (omega arith) (run R (y - j) f (λ s. i) (λ s. j + s) b (rw e (omega arith)) (λ s l. omega arith) (λ s l c d. a c))
-      by (inr l) = at_end refl (omega arith) (omega arith) (run L (j - y) f (λ s. i) (λ s. j - s) b (rw e (omega arith)) (λ s l. omega arith) (λ s l c d. a c))
+  level f i j y b e hi hj hy a =
+      elim (cases_lt j y) [
+        | inl l ↦ at_end refl (omega arith) (omega arith) (run R (y - j) f (λ s. i) (λ s. j + s) b (rw e (omega arith)) (λ s l. omega arith) (λ s l c d. a c))
+        | inr l ↦ at_end refl (omega arith) (omega arith) (run L (j - y) f (λ s. i) (λ s. j - s) b (rw e (omega arith)) (λ s l. omega arith) (λ s l c d. a c))
+      ]
 
   -- to any cell but the one that stays
   pub walk : (f : Frame) (i j x y : ℕ) → Board w t f → 2 ≤ w → 2 ≤ t → gap f ≡ i * w + j → i < t → j < w → x < t → y < w →
@@ -100,13 +102,9 @@ module _ (w t p q : ℕ) (hq : q < w) where
           at_end refl refl (omega (arith, v.2)) (after r (after s z))
 
       by : Is p i → Is q j → Is p x → Is q y → Walked w t f (apart i x + apart j y + 2) x y p q
-      by (inl a) (inl c) o u = absurd (n a c)
-      by (inl a) (inr c) (inl o) (inl u) = absurd (m o u)
+      by _ (inr c) (inr o) _ = first_up c o
+      by (inr a) _ _ (inr u) = first_along a u
+      by (inl a) (inl c) _ _ = absurd (n a c)
+      by _ _ (inl o) (inl u) = absurd (m o u)
       by (inl a) (inr c) (inl o) (inr u) = round_row c u a o
-      by (inl a) (inr c) (inr o) u = first_up c o
-      by (inr a) (inl c) (inl o) (inl u) = absurd (m o u)
       by (inr a) (inl c) (inr o) (inl u) = round_col a o c u
-      by (inr a) (inl c) o (inr u) = first_along a u
-      by (inr a) (inr c) (inr o) u = first_up c o
-      by (inr a) (inr c) (inl o) (inl u) = absurd (m o u)
-      by (inr a) (inr c) (inl o) (inr u) = first_along a u

@@ -1,13 +1,14 @@
 -- What a proper frame is: one gap, and each number below the count of its cells at one place.
-use Rattle.std.proofs.Common.{◌≡◌, ℕ, ◌*◌, ◌<◌, ◌≤◌, true, false, ◌&&◌, eqb, leb, ◌≢◌, length, sym, refl, ◌∙◌, ap₂, ⊎_elim, arith}
-use Rattle.std.proofs.lemmas.Bool.{eqb-true, leb-true, eq-eqb, le-leb, and_parts, and_from, cases_Bool}
+use Rattle.std.proofs.Common.{◌≡◌, ℕ, ◌*◌, ◌<◌, ◌≤◌, true, false, ◌&&◌, eqb, leb, Decides, ◌≢◌, length, sym, refl, ◌∙◌, subst, arith}
+use Rattle.std.proofs.lemmas.Bool.{leb-true, le-leb, false_from_ne_true}
+use Rattle.std.proofs.lemmas.Bool.Decides.{Decides-and, Decides-eqb}
 use Rattle.std.proofs.lemmas.Nat.{mul-le}
-use Rattle.slide.specs.Tiles.{Frame, at, gap, each_once, proper}
+use Rattle.slide.specs.Tiles.{Frame, at, gap, times_in, each_once, proper}
 use Rattle.slide.specs.Calls.{laid}
-use Rattle.slide.proofs.Exchange.{swap, swap_length}
+use Rattle.slide.proofs.Exchange.{swap}
 use Rattle.slide.proofs.Gap.{gap_zero, gap_le}
-use Rattle.slide.proofs.Counts.{each_swap, each_tells, each_from}
-use Rattle.slide.proofs.Pigeonhole.{Once, once_low, once_apart, once_place}
+use Rattle.slide.proofs.Counts.{each_decides}
+use Rattle.slide.proofs.Pigeonhole.{Once, once_low, once_apart, once_place, once_swap}
 
 -- a frame with one gap, whatever its tiles
 pub record Gapped (f : Frame) : Type 0 where
@@ -32,6 +33,10 @@ pub record Proper (f : Frame) : Type 0 where
 pub own_board : (f : Frame) → Gapped f → Board f.wide f.tall f
 own_board f g = record { gapped = g; wide = refl; tall = refl }
 
+-- what holds with its own sides holds with the sides named
+pub on_board : {w t : ℕ} {f : Frame} (P : ℕ → ℕ → Type 0) → Board w t f → P f.wide f.tall → P w t
+on_board {w} {t} {f} P b p = subst (λ v. P v t) b.wide (subst (P f.wide) b.tall p)
+
 -- every number below the count of cells has a place
 pub find : (f : Frame) → Proper f → (v : ℕ) → v < f.wide * f.tall → (p : ℕ) × (p < f.wide * f.tall) × (at f p ≡ v)
 find f s = once_place (f.wide * f.tall) f.cells s.each
@@ -44,39 +49,38 @@ low f s = once_low (f.wide * f.tall) f.cells s.each
 pub alone : (f : Frame) → Proper f → (p q : ℕ) → p < f.wide * f.tall → q < f.wide * f.tall → at f p ≡ at f q → p ≡ q
 alone f s = once_apart (f.wide * f.tall) f.cells s.each
 
--- what the test of a proper frame says
+-- what the test of a proper frame decides
+decides : (f : Frame) → Decides (proper f) ((2 ≤ f.wide × 2 ≤ f.tall) × (length f.cells ≡ f.wide * f.tall × ((v : ℕ) → v < f.wide * f.tall → times_in v f.cells ≡ 1)))
+decides f =
+    let n = f.wide * f.tall in
+    let sides = Decides-and (leb 2 f.wide) (leb 2 f.tall) (leb-true 2 f.wide, le-leb 2 f.wide) (leb-true 2 f.tall, le-leb 2 f.tall) in
+    let cells = Decides-and (eqb (length f.cells) n) (each_once n f.cells) (Decides-eqb (length f.cells) n) (each_decides n f.cells) in
+    Decides-and (leb 2 f.wide && leb 2 f.tall) (eqb (length f.cells) n && each_once n f.cells) sides cells
+
+-- what it says
 pub is_proper : (f : Frame) → proper f ≡ true → Proper f
 is_proper f h =
+    let d = (decides f).0 h in
     let n = f.wide * f.tall in
-    let p = and_parts (leb 2 f.wide && leb 2 f.tall) (eqb (length f.cells) n && each_once n f.cells) h in
-    let q = and_parts (leb 2 f.wide) (leb 2 f.tall) p.0 in
-    let r = and_parts (eqb (length f.cells) n) (each_once n f.cells) p.1 in
-    let w = leb-true 2 f.wide q.0 in
-    let t = leb-true 2 f.tall q.1 in
-    let e = eqb-true (length f.cells) n r.0 in
-    let o : Once n f.cells = record { long = e; once = each_tells n f.cells r.1 } in
-    let z = once_place n f.cells o 0 (omega (arith, mul-le 2 2 f.wide f.tall w t)) in
-    let g : gap f < f.wide * f.tall = omega (arith, gap_le f.cells z.0 (omega (arith, z.1)) z.2, z.1) in
+    let o : Once n f.cells = record { long = d.1.0; once = d.1.1 } in
+    let z = once_place n f.cells o 0 (omega (arith, mul-le 2 2 f.wide f.tall d.0.0 d.0.1)) in
+    let g : gap f < n = omega (arith, gap_le f.cells z.0 (omega (arith, z.1)) z.2, z.1) in
     record {
-      wide = w;
-      tall = t;
-      gapped = record { len = e; has = g; one = λ q l v. once_apart n f.cells o q (gap f) l g (v ∙ sym (gap_zero f.cells)) };
+      wide = d.0.0;
+      tall = d.0.1;
+      gapped = record { len = o.long; has = g; one = λ q l v. once_apart n f.cells o q (gap f) l g (v ∙ sym (gap_zero f.cells)) };
       each = o;
     }
 
--- from what the test follows, and where it fails
+-- from what it follows, and where it fails
 pub proper_from : (f : Frame) → 2 ≤ f.wide → 2 ≤ f.tall → Once (f.wide * f.tall) f.cells → proper f ≡ true
-proper_from f w t o =
-    and_from _ _ (and_from _ _ (le-leb _ _ w) (le-leb _ _ t)) (and_from _ _ (eq-eqb _ _ o.long) (each_from (f.wide * f.tall) f.cells o.once))
+proper_from f w t o = (decides f).1 ((w, t), (o.long, o.once))
 
 pub not_proper : (f : Frame) → (Proper f → ⊥) → proper f ≡ false
-not_proper f n = ⊎_elim (λ h. absurd (n (is_proper f h))) (λ h. h) (cases_Bool (proper f))
+not_proper f n = false_from_ne_true (proper f) (λ h. n (is_proper f h))
 
 -- it stays proper under an exchange
 pub proper_swap : (f : Frame) (i j : ℕ) → proper f ≡ true → i < f.wide * f.tall → j < f.wide * f.tall → i ≢ j → proper (laid f (swap f.cells i j)) ≡ true
 proper_swap f i j h hi hj n =
-    let o = (is_proper f h).each.long in
-    ap₂ (λ l e. (leb 2 f.wide && leb 2 f.tall) && (eqb l (f.wide * f.tall) && e))
-    (swap_length f.cells i j)
-    (each_swap (f.wide * f.tall) f.cells i j (omega arith) (omega arith) n) ∙
-    h
+    let s = is_proper f h in
+    proper_from (laid f (swap f.cells i j)) s.wide s.tall (once_swap (f.wide * f.tall) f.cells s.each i j hi hj n)

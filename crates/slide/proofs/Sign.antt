@@ -1,18 +1,19 @@
 -- A move keeps the sign, and an exchange of two tiles turns it.
-use Rattle.std.proofs.Common.{◌≡◌, ℕ, suc, ◌+◌, ◌*◌, ◌/◌, ◌%◌, ◌<◌, true, eqb, ◌≢◌, List, [], ◌∷◌, get_or, sym, refl, ap, ◌∙◌, ⊎_elim, suc-mul, arith}
-use Rattle.std.proofs.lemmas.Bool.{eq-eqb, ne_eqb, cases_eq, and_parts}
+use Rattle.std.proofs.Common.{◌≡◌, ℕ, suc, ◌+◌, ◌*◌, ◌/◌, ◌%◌, ◌<◌, true, eqb, ◌≢◌, List, get_or, sym, refl, ap, ◌∙◌, arith}
+use Rattle.std.proofs.lemmas.Bool.Decides.{nat_tests}
 use Rattle.std.proofs.lemmas.Nat.{div-mul-add}
-use Rattle.slide.specs.Tiles.{pick, Frame, at, gap, gap_in, from, can, moved, can_all, after_all, Brings, wrong_pairs, sign, proper}
-use Rattle.slide.specs.Promise.{exchanged, HalfOfAll}
+use Rattle.slide.specs.Tiles.{pick, Frame, at, gap, gap_in, from, can, moved, Brings, wrong_pairs, sign, proper}
+use Rattle.slide.specs.Calls.{home, Unsolvable}
+use Rattle.slide.specs.Promise.{exchanged}
 use Rattle.slide.proofs.Exchange.{swap, swap_other}
 use Rattle.slide.proofs.Gap.{gap_zero, gap_is}
 use Rattle.slide.proofs.Pigeonhole.{once_swap, once_apart}
 use Rattle.slide.proofs.Parity.{Apart, tiles_parity, gap_parity}
 use Rattle.slide.proofs.Cells.{Dir, U, D, L, R, Next}
-use Rattle.slide.proofs.Proper.{Proper, is_proper, alone, own_board, proper_swap}
-use Rattle.slide.proofs.Ways.{Way}
-use Rattle.slide.proofs.Moves.{moved_is, step, step_in, step_from}
-use Rattle.slide.proofs.Back.{source, made_back}
+use Rattle.slide.proofs.Proper.{Proper, is_proper, alone, proper_swap}
+use Rattle.slide.proofs.Ways.{Way, by_moves, along}
+use Rattle.slide.proofs.Moves.{moved_is, step_in, step_from}
+use Rattle.slide.proofs.Back.{source, own_step, moved_proper}
 
 -- no two cells hold the same
 cells_apart : (f : Frame) → Proper f → Apart f.cells
@@ -29,14 +30,19 @@ gap_stays f i j s hi hj n ni nj =
     gap_is (swap cs i j) (gap f) (omega (arith, o.long, s.gapped.has)) z
     (λ q l v. once_apart (f.wide * f.tall) (swap cs i j) o q (gap f) (omega (arith, o.long)) s.gapped.has (v ∙ sym z))
 
--- so the sign is the other one
-pub half_of_all : HalfOfAll
+-- so the frame stays proper
+pub exchanged_proper : (f : Frame) (i j : ℕ) → proper f ≡ true → i < f.wide * f.tall → j < f.wide * f.tall → i ≢ j → proper (exchanged f i j) ≡ true
 unfolding exchanged
-half_of_all f i j h hi hj n ni nj =
+exchanged_proper f i j h hi hj n = proper_swap f i j h hi hj n
+
+-- and its sign is the other one
+pub exchanged_sign : (f : Frame) (i j : ℕ) → proper f ≡ true → i < f.wide * f.tall → j < f.wide * f.tall → i ≢ j → at f i ≢ 0 → at f j ≢ 0 → sign (exchanged f i j) ≢ sign f
+unfolding exchanged
+exchanged_sign f i j h hi hj n ni nj q =
     let s = is_proper f h in
     let e = gap_stays f i j s hi hj n ni nj in
     let p = tiles_parity f.cells i j (cells_apart f s) n (omega (arith, s.gapped.len)) (omega (arith, s.gapped.len)) ni nj in
-    (proper_swap f i j h hi hj n, λ q. omega (arith, p, rw e at q))
+    omega (arith, p, rw e at q)
 
 -- ---- a move: the gap's row and its place turn together
 -- a row, where it counts
@@ -49,20 +55,20 @@ counted_at w i j l = ap (counted w) (div-mul-add i w j l)
 
 -- one row on
 counted_next : (w i : ℕ) → (counted w i + counted w (suc i) + w) % 2 ≡ 1
-counted_next w i = ⊎_elim (λ e. rw (eq-eqb (w % 2) 0 e) (omega arith)) (λ n. rw (ne_eqb (w % 2) 0 n) (omega arith)) (cases_eq (w % 2) 0)
+counted_next w i = grind (arith, nat_tests)
 
 -- a step of the gap turns the row that counts, or its place, or both and the width with them
-counted_step : (w t : ℕ) (d : Dir) (i j x y : ℕ) → Next w t d i j x y → (counted w i + counted w x + (i * w + j) + (x * w + y)) % 2 ≡ 1
-counted_step w t U i j x y n = rw n.0 (omega (arith, suc-mul x w, counted_next w x))
-counted_step w t D i j x y n = rw n.0 (omega (arith, suc-mul i w, counted_next w i))
-counted_step w t L i j x y n = rw n.0 (omega arith)
-counted_step w t R i j x y n = rw n.0 (omega arith)
+counted_step : (w t : ℕ) (d : Dir) {i j x y : ℕ} → Next w t d i j x y → (counted w i + counted w x + (i * w + j) + (x * w + y)) % 2 ≡ 1
+counted_step w t U {x = x} n = rw n.is.0 (omega (arith, counted_next w x))
+counted_step w t D {i} n = rw n.is.0 (omega (arith, counted_next w i))
+counted_step w t L n = rw n.is.0 (omega arith)
+counted_step w t R n = rw n.is.0 (omega arith)
 
 -- a move keeps the sign
 pub sign_kept : (f : Frame) (m : ℕ) → proper f ≡ true → can f m ≡ true → sign (moved f m) ≡ sign f
 sign_kept f m h c =
     let s = is_proper f h in
-    let r = step f.wide f.tall f m (own_board f s.gapped) c in
+    let r = own_step f m s c in
     let b = step_in r in
     let p = source f m s r in
     let e = step_from f m r in
@@ -70,18 +76,17 @@ sign_kept f m h c =
     let wrong = ap (λ g. wrong_pairs g.cells) (moved_is f m) in
     let before = ap (λ g. counted f.wide (g / f.wide)) r.gap ∙ counted_at f.wide r.i r.j b.3 in
     let after = ap (λ g. counted f.wide (g / f.wide)) (p.gap ∙ e) ∙ counted_at f.wide r.x r.y b.1 in
-    omega (arith, wrong, q, before, after, counted_step f.wide f.tall r.d r.i r.j r.x r.y r.next)
+    omega (arith, wrong, q, before, after, counted_step f.wide f.tall r.d r.next)
 
--- moves one after the other keep it
-sign_all : (f : Frame) (ms : List ℕ) → proper f ≡ true → can_all f ms ≡ true → sign f ≡ sign (after_all f ms)
-unfolding can_all after_all
-sign_all f [] h c = refl
-sign_all f (m ∷ ms) h c = let k = and_parts _ _ c in sym (sign_kept f m h k.0) ∙ sign_all (moved f m) ms (made_back f m h k.0).0 k.1
+-- and so does a way
+pub way_sign : {f g : Frame} {n : ℕ} → proper f ≡ true → Way f n g → sign f ≡ sign g
+way_sign {f} {g} {n} h r =
+    (along (λ k. (proper k ≡ true) × (sign f ≡ sign k)) (λ k m p c. (moved_proper k m p.0 c, p.1 ∙ sym (sign_kept k m p.0 c))) (h, refl) r).1
 
 -- so a frame is brought only to frames of its own sign
 pub brings_sign : (f g : Frame) (ms : List ℕ) → proper f ≡ true → Brings f ms g → sign f ≡ sign g
-brings_sign f g ms h b = sign_all f ms h b.0 ∙ ap sign b.1
+brings_sign f g ms h b = way_sign h (by_moves ms b)
 
--- along a way
-pub way_sign : {f g : Frame} {n : ℕ} → proper f ≡ true → Way f n g → sign f ≡ sign g
-way_sign {f} {g} {n} h r = brings_sign f g r.ms h (r.can, r.end)
+-- and one whose sign is not that of the frame in order never comes in order
+pub never_by_sign : (f : Frame) → proper f ≡ true → sign f ≢ sign (home f) → Unsolvable f
+never_by_sign f h n ms b = n (brings_sign f (home f) ms h b)

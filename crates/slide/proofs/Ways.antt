@@ -1,8 +1,8 @@
 -- Ways: moves one after the other, and how many they are.
-use Rattle.std.proofs.Common.{◌≡◌, ℕ, ◌+◌, ◌≤◌, true, List, [], ◌∷◌, ◌++◌, length, refl, ap, ◌∙◌, arith}
+use Rattle.std.proofs.Common.{◌≡◌, ℕ, ◌+◌, ◌≤◌, true, List, [], ◌∷◌, ◌++◌, length, refl, ap, ◌∙◌, subst, arith}
 use Rattle.std.proofs.lemmas.List.{length-append}
 use Rattle.std.proofs.lemmas.Bool.{and_from, and_parts}
-use Rattle.slide.specs.Tiles.{Frame, can, moved, can_all, after_all}
+use Rattle.slide.specs.Tiles.{Frame, can, moved, can_all, after_all, Brings}
 
 -- g is reached from f in at most n moves
 pub record Way (f : Frame) (n : ℕ) (g : Frame) : Type 0 where
@@ -41,6 +41,20 @@ then {f} {g} {h} {m} {n} a b = record {
   short = simp length-append (omega arith);
 }
 
+-- moves that bring one frame to another
+pub by_moves : {f g : Frame} (ms : List ℕ) → Brings f ms g → Way f (length ms) g
+by_moves ms b = record { ms = ms; can = b.0; end = b.1; short = omega arith }
+
 -- the same way, said to be longer
 pub longer : {f g : Frame} {m n : ℕ} → m ≤ n → Way f m g → Way f n g
 longer l a = record { ms = a.ms; can = a.can; end = a.end; short = omega arith }
+
+-- what each move keeps, moves one after the other keep
+kept : (P : Frame → Type 0) → ((f : Frame) (m : ℕ) → P f → can f m ≡ true → P (moved f m)) → (f : Frame) (ms : List ℕ) → P f → can_all f ms ≡ true → P (after_all f ms)
+unfolding can_all after_all
+kept P move f [] p c = p
+kept P move f (m ∷ ms) p c = let k = and_parts _ _ c in kept P move (moved f m) ms (move f m p k.0) k.1
+
+-- and so does a way
+pub along : (P : Frame → Type 0) → ((f : Frame) (m : ℕ) → P f → can f m ≡ true → P (moved f m)) → {f g : Frame} {n : ℕ} → P f → Way f n g → P g
+along P move {f} {g} {n} p r = subst P r.end (kept P move f r.ms p r.can)

@@ -1,20 +1,16 @@
 -- The worked frames of 3 by 3: their moves are made by computing, and the laws of distances and of the sign say the rest.
-use Rattle.std.proofs.Common.{◌≡◌, ℕ, zero, suc, ◌≤◌, true, ◌≢◌, List, [], ◌∷◌, length, refl, ap, arith}
+use Rattle.std.proofs.Common.{◌≡◌, ℕ, zero, suc, ◌≤◌, true, List, [], ◌∷◌, length, refl, ap, arith}
 use Rattle.std.proofs.lemmas.Bool.{false≢true}
-use Rattle.slide.specs.Tiles.{Frame, at, gap_in, from, can, can_all, after_all, up_from, sign, larger_than, wrong_pairs, times_in, each_once, proper}
-use Rattle.slide.specs.Calls.{home, SolvedBy, Unsolvable, Fewest}
+use Rattle.slide.specs.Tiles.{Frame, at, gap_in, from, can, can_all, after_all, up_from, larger_than, wrong_pairs, times_in, each_once, proper}
+use Rattle.slide.specs.Calls.{SolvedBy, Fewest}
 use Rattle.slide.specs.Promise.{far_in}
 use Rattle.slide.specs.Examples.{two_moves_left, TwiceToTheLeft, last_two_exchanged, LastTwoNever}
 use Rattle.slide.proofs.Distance.{at_least}
-use Rattle.slide.proofs.Sign.{brings_sign}
+use Rattle.slide.proofs.Sign.{never_by_sign}
 
 -- moves that bring a frame in order and are no more than its tiles' distances together are the fewest
 fewest_by : (f : Frame) (ms : List ℕ) → proper f ≡ true → length ms ≤ far_in f.wide f.cells 0 → SolvedBy f ms → Fewest f ms
 fewest_by f ms p l b = (b, λ ns c. omega (arith, at_least f ns p c))
-
--- a frame whose sign is not that of the one in order never comes in order
-never_by : (f : Frame) → proper f ≡ true → sign f ≢ sign (home f) → Unsolvable f
-never_by f p n ms b = n (brings_sign f (home f) ms p b)
 
 -- both are proper frames, and the moves of the first can be made
 left_proper : proper two_moves_left ≡ true
@@ -39,24 +35,16 @@ left_only : (a b : ℕ) → SolvedBy two_moves_left (a ∷ b ∷ []) → a ∷ b
 unfolding can_all after_all can from gap_in up_from
 left_only zero zero (c, e) = absurd (omega (arith, ap (λ g. at g 6) e))
 left_only zero (suc zero) (c, e) = absurd (omega (arith, ap (λ g. at g 6) e))
-left_only zero (suc (suc zero)) (c, e) = absurd (false≢true c)
 left_only zero (suc (suc (suc zero))) (c, e) = absurd (omega (arith, ap (λ g. at g 6) e))
-left_only zero (suc (suc (suc (suc b)))) (c, e) = absurd (false≢true c)
-left_only (suc zero) b (c, e) = absurd (false≢true c)
-left_only (suc (suc zero)) b (c, e) = absurd (false≢true c)
 left_only (suc (suc (suc zero))) zero (c, e) = absurd (omega (arith, ap (λ g. at g 4) e))
-left_only (suc (suc (suc zero))) (suc zero) (c, e) = absurd (false≢true c)
 left_only (suc (suc (suc zero))) (suc (suc zero)) (c, e) = absurd (omega (arith, ap (λ g. at g 6) e))
 left_only (suc (suc (suc zero))) (suc (suc (suc zero))) (c, e) = refl
-left_only (suc (suc (suc zero))) (suc (suc (suc (suc b)))) (c, e) = absurd (false≢true c)
-left_only (suc (suc (suc (suc a)))) b (c, e) = absurd (false≢true c)
+left_only _ _ (c, e) = absurd (false≢true c)
 
 -- fewer than two moves do not, and more are not the fewest
 left_two : (ms : List ℕ) → length ms ≡ 2 → SolvedBy two_moves_left ms → ms ≡ 3 ∷ 3 ∷ []
-left_two [] l b = absurd (omega arith)
-left_two (m ∷ []) l b = absurd (omega arith)
 left_two (m ∷ n ∷ []) l b = left_only m n b
-left_two (m ∷ n ∷ k ∷ ms) l b = absurd (omega arith)
+left_two _ l b = absurd (omega arith)
 
 -- two moves to the left, and nothing else so short
 pub twice_to_the_left : TwiceToTheLeft
@@ -70,4 +58,4 @@ twice_to_the_left = (
 -- its sign is 1, and that of the frame in order 0
 pub last_two_never : LastTwoNever
 unfolding wrong_pairs larger_than gap_in up_from
-last_two_never = (refl, never_by last_two_exchanged never_proper (λ e. omega arith))
+last_two_never = (refl, never_by_sign last_two_exchanged never_proper (λ e. omega arith))

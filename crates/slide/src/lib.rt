@@ -5,36 +5,31 @@ ghost use Rattle.slide.specs.Promise.{MadeBack, HalfOfAll, AtLeast};
 ghost use Rattle.slide.specs.Examples.{TwiceToTheLeft, LastTwoNever};
 
 // Every move can be made back, and a frame stays one.
-pub fn made_back() -> u8
+#[tactic(auto, using(crate::proofs::Back::moved_proper, crate::proofs::Back::back_can, crate::proofs::Back::back_moved))]
+pub fn made_back()
     ensures { MadeBack }
-{
-    0
-}
+{}
 
 // Two tiles exchanged make the sign the other one.
-pub fn half_of_all() -> u8
+#[tactic(auto, using(crate::proofs::Sign::exchanged_proper, crate::proofs::Sign::exchanged_sign))]
+pub fn half_of_all()
     ensures { HalfOfAll }
-{
-    0
-}
+{}
 
 // No way in order is shorter than all tiles' distances together.
-pub fn at_least() -> u8
+#[tactic(auto, using(crate::proofs::Distance::at_least))]
+pub fn at_least()
     ensures { AtLeast }
-{
-    0
-}
+{}
 
 // Of 3 by 3, `1 2 3, 4 5 6, 0 7 8` is brought in order by two moves to the left and by nothing shorter.
-pub fn twice_to_the_left() -> u8
+#[tactic(auto, using(crate::proofs::Worked::twice_to_the_left))]
+pub fn twice_to_the_left()
     ensures { TwiceToTheLeft }
-{
-    0
-}
+{}
 
 // Of 3 by 3, `1 2 3, 4 5 6, 8 7 0` is brought in order by no moves at all.
-pub fn last_two_never() -> u8
+#[tactic(auto, using(crate::proofs::Worked::last_two_never))]
+pub fn last_two_never()
     ensures { LastTwoNever }
-{
-    0
-}
+{}
