@@ -17,27 +17,21 @@ use Rattle.codec.proofs.Read.{bytes_of}
 -- the number of a way and the count of its moves, before moves that stand there already
 pub way_written : (out count : List ℕ) (n : ℕ) → 5 + n ≤ length out → count ≡ four n →
     put_mid 1 4 (set out 0 3) count ≡ answer_bytes (calls.way (take n (drop 5 out))) ++ drop (5 + n) out
-way_written (a ∷ b ∷ c ∷ d ∷ e ∷ out) count n h is =
-    let l : length (take n out) ≡ n = length-take-le n out (omega arith) in
-    let s = take-append-drop n out in
-    let past = drop-drop n 5 (a ∷ b ∷ c ∷ d ∷ e ∷ out) in
-    rw (is, l, ← past, s)
 way_written [] count n h is = absurd (omega arith)
-way_written (a ∷ []) count n h is = absurd (omega arith)
-way_written (a ∷ b ∷ []) count n h is = absurd (omega arith)
-way_written (a ∷ b ∷ c ∷ []) count n h is = absurd (omega arith)
-way_written (a ∷ b ∷ c ∷ d ∷ []) count n h is = absurd (omega arith)
+way_written (a ∷ out) count n h is =
+    let l : length (take n (drop 4 out)) ≡ n = length-take-le n (drop 4 out) (omega (arith, length-drop 4 out)) in
+    let s = take-append-drop n (drop 4 out) in
+    let past = drop-drop n 5 (a ∷ out) in
+    rw (is, l, ← past, s)
 
 -- the number of cells, their count and the cells
 pub cells_written : (out count bytes cs : List ℕ) → 3 + 2 * length cs ≤ length out → count ≡ two (length cs) → bytes ≡ twos cs →
     put_mid 3 (3 + 2 * length cs - 3) (put_mid 1 2 (set out 0 2) count) bytes ≡ answer_bytes (calls.cells cs) ++ drop (3 + 2 * length cs) out
-cells_written (a ∷ b ∷ c ∷ out) count bytes cs h is all =
-    let past = drop-drop (2 * length cs) 3 (a ∷ b ∷ c ∷ out) in
+cells_written [] count bytes cs h is all = absurd (omega arith)
+cells_written (a ∷ out) count bytes cs h is all =
+    let past = drop-drop (2 * length cs) 3 (a ∷ out) in
     let e : 3 + 2 * length cs - 3 ≡ 2 * length cs = omega arith in
     rw (is, all, e, ← past)
-cells_written [] count bytes cs h is all = absurd (omega arith)
-cells_written (a ∷ []) count bytes cs h is all = absurd (omega arith)
-cells_written (a ∷ b ∷ []) count bytes cs h is all = absurd (omega arith)
 
 -- how long an answer's bytes are, where there is room for its moves
 length_told : (a : Answer) (cs out : List ℕ) → size a (length cs) ≤ length out → length (answer_bytes (told a cs out)) ≡ size a (length cs)

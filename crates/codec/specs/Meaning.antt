@@ -7,6 +7,7 @@ use Rattle.codec.specs.declared.answer.Answer.{Answer}
 use Rattle.codec.specs.declared.answer.Answer.TheVariants.{Refused, Number, Cells, Way, Never}
 use Rattle.codec.specs.declared.call.Call.{Call}
 use Rattle.codec.specs.declared.call.Call.TheVariants.{Lay, Move, Show, Solve, Shortest}
+use Rattle.codec.specs.declared.misread.Misread.{Misread}
 use Rattle.codec.specs.declared.refusal.Refusal.{Refusal}
 use Rattle.codec.specs.declared.refusal.Refusal.TheVariants.{Unreadable, Improper, Side, Memory, Blocked, TooManyCells}
 
@@ -80,6 +81,6 @@ pub record Written (a : Answer) (cs before after : List ℕ) (n : ℕ) : Type 0 
   pub back : read_answer (take n after) ≡ Ok (told a cs before)
 
 -- what was read, by what it means; or the place of the first byte that does not fit
-abbrev pub as_read : {X Y : Type 0} → (X → Y) → Result X ℕ → Result Y ℕ
+abbrev pub as_read : {X Y : Type 0} → (X → Y) → Result X Misread → Result Y ℕ
 as_read mean (Ok x) = Ok (mean x)
-as_read mean (Err p) = Err p
+as_read mean (Err e) = Err e.place

@@ -5,9 +5,9 @@ ghost use Rattle.encoding.specs.Formats.{StopsAt};
 ghost use Rattle.encoding.specs.AnswerBytes.{AnswerFits, answer_bytes, AnswerWriting, read_answer_by, read_answer};
 ghost use Rattle.codec.specs.Meaning.{told, told_in, size, HasRoom, Written, as_read};
 
+use super::misread::Misread;
 use super::refusal::Refusal;
-use super::refused::read;
-use super::size::{counted, counted_moves, exactly};
+use super::size::{behind_first, exactly};
 
 // What the desk answers.
 #[derive(Clone, Copy, PartialEq, Eq, Debug)]
@@ -25,120 +25,121 @@ pub enum Answer {
 }
 
 // Writes each cell in two bytes, low byte first.
+#[tactic(auto, using(encoding::proofs::Numbers::twos_more, std::proofs::lemmas::Slice::overwrites), unfolding(encoding::specs::Bytes::twos))]
 fn write_cells(cells: &[u16], out: &mut [u8])
     requires { length out.old ≡ 2 * length cells.now }
     ensures { out.new ≡ twos cells.now }
 {
+    // By index: tried with `chunks_exact_mut`, the proof does not close, as the library does not say what lent chunks end as.
     for (index, cell) in cells.iter().enumerate() {
-        let [low, high] = cell.to_le_bytes();
-        out[2 * index] = low;
-        out[2 * index + 1] = high;
+        out[2 * index..2 * index + 2].copy_from_slice(&cell.to_le_bytes());
     }
 }
 
-// How many bytes the answer takes, with so many cells beside it.
-fn size(answer: Answer, cells: u16) -> usize
-    ensures { result ≡ size answer cells }
-{
-    match answer {
-        Answer::Refused(_) => 7,
-        Answer::Number(_) => 3,
-        Answer::Cells => 3 + 2 * usize::from(cells),
-        Answer::Way(count) => 5 + count as usize,
-        Answer::Never => 1,
-    }
-}
-
-// Writes the answer, for which there is room. The moves of a way stand there already.
-fn write(answer: Answer, cells: &[u16], out: &mut [u8])
-    requires { HasRoom answer (length cells.now) (length out.old) }
-    ensures bytes { out.new ≡ answer_bytes (told answer cells.now out.old) ++ drop (size answer (length cells.now)) out.old }
-    ensures fits { AnswerFits (told answer cells.now out.old) }
-{
-    match answer {
-        Answer::Refused(refusal) => {
-            out[0] = 0;
-            out[1..3].copy_from_slice(&refusal.number().to_le_bytes());
-            out[3..7].copy_from_slice(&refusal.place().to_le_bytes());
-        }
-        Answer::Number(number) => {
-            out[0] = 1;
-            out[1..3].copy_from_slice(&number.to_le_bytes());
-        }
-        Answer::Cells => {
-            let count = cells.len();
-            out[0] = 2;
-            out[1..3].copy_from_slice(&(count as u16).to_le_bytes());
-            write_cells(cells, &mut out[3..3 + 2 * count]);
-        }
-        Answer::Way(count) => {
-            out[0] = 3;
-            out[1..5].copy_from_slice(&count.to_le_bytes());
-        }
-        Answer::Never => {
-            out[0] = 4;
+impl Answer {
+    // How many bytes the answer takes, with so many cells beside it.
+    fn size(self, cells: u16) -> usize
+        ensures { result ≡ size self cells }
+    {
+        match self {
+            Answer::Refused(_) => 7,
+            Answer::Number(_) => 3,
+            Answer::Cells => 3 + 2 * usize::from(cells),
+            Answer::Way(count) => 5 + count as usize,
+            Answer::Never => 1,
         }
     }
-}
 
-// Writes the answer, with the cells beside it if it is these, and says how many bytes it takes; what is behind them stays.
-// The moves of a way are those that stand there already, from the sixth byte on. None, and nothing is written, where there
-// are too few bytes, or more cells than two bytes can count.
-pub fn encode(answer: Answer, cells: &[u16], out: &mut [u8]) -> Option<usize>
-    ensures { MatchOption result
-        ((HasRoom answer (length cells.now) (length out.old) → ⊥) × (out.new ≡ out.old))
-        (Written answer cells.now out.old out.new) }
-{
-    let Ok(count) = u16::try_from(cells.len()) else {
-        return None;
-    };
-    let size = size(answer, count);
-    if out.len() < size {
-        return None;
+    // Writes the answer, for which there is room. The moves of a way stand there already.
+    fn write(self, cells: &[u16], out: &mut [u8])
+        requires { HasRoom self (length cells.now) (length out.old) }
+        ensures bytes { out.new ≡ answer_bytes (told self cells.now out.old) ++ drop (size self (length cells.now)) out.old }
+        ensures fits { AnswerFits (told self cells.now out.old) }
+    {
+        match self {
+            Answer::Refused(refusal) => {
+                out[0] = 0;
+                out[1..3].copy_from_slice(&refusal.number().to_le_bytes());
+                out[3..7].copy_from_slice(&refusal.place().to_le_bytes());
+            }
+            Answer::Number(number) => {
+                out[0] = 1;
+                out[1..3].copy_from_slice(&number.to_le_bytes());
+            }
+            Answer::Cells => {
+                let count = cells.len();
+                out[0] = 2;
+                out[1..3].copy_from_slice(&(count as u16).to_le_bytes());
+                write_cells(cells, &mut out[3..3 + 2 * count]);
+            }
+            Answer::Way(count) => {
+                out[0] = 3;
+                out[1..5].copy_from_slice(&count.to_le_bytes());
+            }
+            Answer::Never => out[0] = 4,
+        }
     }
-    write(answer, cells, out);
-    Some(size)
-}
 
-// The same of bytes of which the first is the number of the answer.
-fn decode_answer_by(number: u8, bytes: &[u8]) -> Result<Answer, usize>
-    ensures value { as_read (told_in bytes.now) result ≡ read_answer_by number bytes.now }
-    ensures whole { IfOk result (λ a. size a (length (words (drop 3 bytes.now))) ≡ length bytes.now) }
-{
-    match number {
-        0 => Ok(Answer::Refused(read(bytes)?)),
-        1 => {
-            exactly(bytes, 3)?;
-            Ok(Answer::Number(u16::from_le_bytes([bytes[1], bytes[2]])))
+    // Writes the answer, with the cells beside it if it is these, and says how many bytes it takes; what is behind them stays.
+    // The moves of a way are those that stand there already, from the sixth byte on. None, and nothing is written, where there
+    // are too few bytes, or more cells than two bytes can count.
+    pub fn encode(self, cells: &[u16], out: &mut [u8]) -> Option<usize>
+        ensures { MatchOption result
+            ((HasRoom self (length cells.now) (length out.old) → ⊥) × (out.new ≡ out.old))
+            (Written self cells.now out.old out.new) }
+    {
+        let count = u16::try_from(cells.len()).ok()?;
+        let size = self.size(count);
+        if out.len() < size {
+            return None;
         }
-        2 => {
-            exactly(bytes, counted(bytes))?;
-            Ok(Answer::Cells)
-        }
-        3 => {
-            let size = counted_moves(bytes);
-            exactly(bytes, size)?;
-            Ok(Answer::Way((size - 5) as u32))
-        }
-        4 => {
-            exactly(bytes, 1)?;
-            Ok(Answer::Never)
-        }
-        _ => Err(0),
+        self.write(cells, out);
+        Some(size)
     }
-}
 
-// The answer that the bytes are, or the place of the first that does not fit. Cells stand from the fourth byte on, two bytes
-// each, and the moves of a way from the sixth on.
-pub fn decode_answer(bytes: &[u8]) -> Result<Answer, usize>
-    ensures value { as_read (told_in bytes.now) result ≡ read_answer bytes.now }
-    ensures whole { IfOk result (λ a. size a (length (words (drop 3 bytes.now))) ≡ length bytes.now) }
-    ensures law { MatchResult result
-        (λ a. AnswerFits (told_in bytes.now a) × (answer_bytes (told_in bytes.now a) ≡ bytes.now))
-        (StopsAt AnswerWriting bytes.now) }
-{
-    let [number, ..] = bytes else {
-        return Err(0);
-    };
-    decode_answer_by(*number, bytes)
+    // The same of bytes of which the first is the number of the answer.
+    #[tactic(auto, using(encoding::proofs::Numbers::words_read, std::proofs::lemmas::Grind::common_steps))]
+    fn decode_by(number: u8, bytes: &[u8]) -> Result<Answer, Misread>
+        ensures value { as_read (told_in bytes.now) result ≡ read_answer_by number bytes.now }
+        ensures whole { IfOk result (λ a. size a (length (words (drop 3 bytes.now))) ≡ length bytes.now) }
+    {
+        match number {
+            0 => Ok(Answer::Refused(Refusal::decode(bytes)?)),
+            1 => {
+                let number = u16::from_le_bytes(behind_first(bytes)?);
+                exactly(bytes, 3)?;
+                Ok(Answer::Number(number))
+            }
+            2 => {
+                let count = u16::from_le_bytes(behind_first(bytes)?);
+                exactly(bytes, 3 + 2 * usize::from(count))?;
+                Ok(Answer::Cells)
+            }
+            3 => {
+                let count = u32::from_le_bytes(behind_first(bytes)?);
+                exactly(bytes, 5 + count as usize)?;
+                Ok(Answer::Way(count))
+            }
+            4 => {
+                exactly(bytes, 1)?;
+                Ok(Answer::Never)
+            }
+            _ => Err(Misread { place: 0 }),
+        }
+    }
+
+    // The answer that the bytes are, or the place of the first that does not fit. Cells stand from the fourth byte on, two bytes
+    // each, and the moves of a way from the sixth on.
+    pub fn decode(bytes: &[u8]) -> Result<Answer, Misread>
+        ensures value { as_read (told_in bytes.now) result ≡ read_answer bytes.now }
+        ensures whole { IfOk result (λ a. size a (length (words (drop 3 bytes.now))) ≡ length bytes.now) }
+        ensures law { MatchResult result
+            (λ a. AnswerFits (told_in bytes.now a) × (answer_bytes (told_in bytes.now a) ≡ bytes.now))
+            (λ e. StopsAt AnswerWriting bytes.now e.place) }
+    {
+        let [number, ..] = bytes else {
+            return Err(Misread { place: 0 });
+        };
+        Answer::decode_by(*number, bytes)
+    }
 }

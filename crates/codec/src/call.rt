@@ -4,10 +4,11 @@ ghost use Rattle.encoding.specs.Formats.{StopsAt};
 ghost use Rattle.encoding.specs.CallBytes.{CallFits, call_bytes, CallWriting, read_call_by, read_call};
 ghost use Rattle.codec.specs.Meaning.{meant, PartOf, as_read};
 
-use super::size::{counted, exactly};
+use super::misread::Misread;
+use super::size::{behind_first, exactly};
 
 // What is asked of the desk.
-#[derive(Clone, Copy, Debug)]
+#[derive(Clone, Copy, PartialEq, Eq, Debug)]
 pub enum Call<'a> {
     // These cells in place of those that are there. They stay where they are in the request: two bytes each, low byte first.
     Lay(&'a [u8]),
@@ -21,48 +22,51 @@ pub enum Call<'a> {
     Shortest,
 }
 
-// The same of bytes of which the first is the number of the call.
-fn decode_by(number: u8, request: &[u8]) -> Result<Call<'_>, usize>
-    ensures value { as_read meant result ≡ read_call_by number request.now }
-    ensures part { IfOk result (PartOf request.now) }
-    ensures range { IfErr result (λ p. p ≤ 131073) }
-{
-    match number {
-        0 => {
-            exactly(request, counted(request))?;
-            Ok(Call::Lay(&request[3..]))
+impl<'a> Call<'a> {
+    // The same of bytes of which the first is the number of the call.
+    fn decode_by(number: u8, request: &'a [u8]) -> Result<Self, Misread>
+        ensures value { as_read meant result ≡ read_call_by number request.now }
+        ensures part { IfOk result (PartOf request.now) }
+        ensures range { IfErr result (λ e. e.place ≤ 131073) }
+    {
+        match number {
+            0 => {
+                let count = u16::from_le_bytes(behind_first(request)?);
+                exactly(request, 3 + 2 * usize::from(count))?;
+                Ok(Call::Lay(&request[3..]))
+            }
+            1 => {
+                exactly(request, 2)?;
+                Ok(Call::Move(request[1]))
+            }
+            2 => {
+                exactly(request, 1)?;
+                Ok(Call::Show)
+            }
+            3 => {
+                exactly(request, 1)?;
+                Ok(Call::Solve)
+            }
+            4 => {
+                exactly(request, 1)?;
+                Ok(Call::Shortest)
+            }
+            _ => Err(Misread { place: 0 }),
         }
-        1 => {
-            exactly(request, 2)?;
-            Ok(Call::Move(request[1]))
-        }
-        2 => {
-            exactly(request, 1)?;
-            Ok(Call::Show)
-        }
-        3 => {
-            exactly(request, 1)?;
-            Ok(Call::Solve)
-        }
-        4 => {
-            exactly(request, 1)?;
-            Ok(Call::Shortest)
-        }
-        _ => Err(0),
     }
-}
 
-// The call that the bytes are, or the place of the first that does not fit.
-pub fn decode(request: &[u8]) -> Result<Call<'_>, usize>
-    ensures value { as_read meant result ≡ read_call request.now }
-    ensures part { IfOk result (PartOf request.now) }
-    ensures range { IfErr result (λ p. p ≤ 131073) }
-    ensures law { MatchResult result
-        (λ c. CallFits (meant c) × (call_bytes (meant c) ≡ request.now))
-        (StopsAt CallWriting request.now) }
-{
-    let [number, ..] = request else {
-        return Err(0);
-    };
-    decode_by(*number, request)
+    // The call that the bytes are, or the place of the first that does not fit.
+    pub fn decode(request: &'a [u8]) -> Result<Self, Misread>
+        ensures value { as_read meant result ≡ read_call request.now }
+        ensures part { IfOk result (PartOf request.now) }
+        ensures range { IfErr result (λ e. e.place ≤ 131073) }
+        ensures law { MatchResult result
+            (λ c. CallFits (meant c) × (call_bytes (meant c) ≡ request.now))
+            (λ e. StopsAt CallWriting request.now e.place) }
+    {
+        let [number, ..] = request else {
+            return Err(Misread { place: 0 });
+        };
+        Call::decode_by(*number, request)
+    }
 }

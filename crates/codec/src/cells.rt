@@ -3,13 +3,12 @@ ghost use Rattle.std.specs.Prelude.{◌≡◌, ◌*◌, ◌<◌, ◌≤◌, leng
 ghost use Rattle.encoding.specs.Bytes.{twos, words};
 
 // The cell of this index, if there are so many.
+#[tactic(auto, using(encoding::proofs::Numbers::words_read, std::proofs::lemmas::Grind::common_steps))]
 pub fn cell(cells: &[u8], index: usize) -> Option<u16>
     ensures { MatchOption result
         (length (words cells.now) ≤ index)
         (λ c. (index < length (words cells.now)) × (c ≡ slice_index (words cells.now) index)) }
 {
-    if index >= cells.len() / 2 {
-        return None;
-    }
-    Some(u16::from_le_bytes([cells[2 * index], cells[2 * index + 1]]))
+    let (pairs, _) = cells.as_chunks::<2>();
+    pairs.get(index).map(|pair| u16::from_le_bytes(*pair))
 }

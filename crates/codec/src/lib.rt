@@ -4,6 +4,7 @@
 pub mod answer;
 pub mod call;
 pub mod cells;
+pub mod misread;
 pub mod refusal;
 mod refused;
 mod size;

@@ -1,5 +1,6 @@
 // Refusals: their numbers and places.
-ghost use Rattle.std.specs.Prelude.{◌≡◌};
+ghost use Rattle.std.specs.Prelude.{◌≡◌, true, false, MatchOption};
+ghost use Rattle.encoding.specs.AnswerBytes.{refusal};
 ghost use Rattle.codec.specs.Meaning.{number_of, place_of};
 
 // Why a call is turned away.
@@ -41,6 +42,23 @@ impl Refusal {
             Refusal::Unreadable(place) => place,
             Refusal::Memory => 1,
             _ => 0,
+        }
+    }
+
+    // The refusal that has this number and place, if one of the list has.
+    pub fn listed(number: u16, place: u32) -> Option<Refusal>
+        ensures { MatchOption result
+            (refusal number place ≡ false)
+            (λ e. (refusal number place ≡ true) × (number_of e ≡ number) × (place_of e ≡ place)) }
+    {
+        match (number, place) {
+            (1, _) => Some(Refusal::Unreadable(place)),
+            (2, 0) => Some(Refusal::Improper),
+            (3, 0) => Some(Refusal::Side),
+            (3, 1) => Some(Refusal::Memory),
+            (4, 0) => Some(Refusal::Blocked),
+            (5, 0) => Some(Refusal::TooManyCells),
+            _ => None,
         }
     }
 }

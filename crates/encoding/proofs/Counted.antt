@@ -1,11 +1,8 @@
 -- A count in two bytes and so many numbers in two bytes each; and nothing at all.
-use Rattle.std.proofs.Common.{◌≡◌, ℕ, ◌+◌, ◌*◌, ◌%◌, ◌<◌, ◌≤◌, List, [], ◌∷◌, ◌++◌, length, drop, refl, ⊎_elim, arith}
+use Rattle.std.proofs.Common.{◌≡◌, ℕ, ◌+◌, ◌*◌, ◌%◌, ◌<◌, List, [], ◌∷◌, ◌++◌, length, drop, refl, arith}
 use Rattle.std.specs.List.{AllByRecursion}
-use Rattle.std.proofs.lemmas.List.{length-drop}
-use Rattle.std.proofs.lemmas.Bool.{cases_lt, lt-ltb, le-ltb}
 use Rattle.encoding.specs.Bytes.{two, twos, two_at, words}
-use Rattle.encoding.specs.Formats.{sized}
-use Rattle.encoding.proofs.Numbers.{two_value, low_byte, length-twos, Bytes-twos, twos-words, length-words}
+use Rattle.encoding.proofs.Numbers.{two_value, low_byte, length-twos, Bytes-twos, twos-words}
 use Rattle.encoding.proofs.Stops.{Headed, ByHead, nothing}
 
 -- how many bytes follow the count
@@ -42,13 +39,3 @@ twos_counted (a ∷ b ∷ bs) h =
 pub nothing_else : (k : ℕ) (bs : List ℕ) → Headed 0 nothing bs → k ∷ [] ≡ k ∷ bs
 nothing_else k [] h = refl
 nothing_else k (a ∷ bs) h = absurd (omega (arith, h.1))
-
--- bytes that are three and so many cells end with the last cell
-pub cells_fill : (bs : List ℕ) (n : ℕ) → length bs ≡ sized bs 3 (2 * n) → 3 + 2 * length (words (drop 3 bs)) ≡ length bs
-cells_fill bs n e =
-    let l = length-words (drop 3 bs) in
-    let d = length-drop 3 bs in
-    ⊎_elim
-    (λ (h : length bs < 3). absurd (omega (arith, h, rw (lt-ltb (length bs) 3 h) at e)))
-    (λ (h : 3 ≤ length bs). omega (arith, h, l, d, rw (le-ltb (length bs) 3 h) at e))
-    (cases_lt (length bs) 3)

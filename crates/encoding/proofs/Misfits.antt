@@ -1,6 +1,6 @@
 -- The first byte of a refusal that can't stand where it does.
-use Rattle.std.proofs.Common.{◌≡◌, ℕ, zero, suc, ◌+◌, ◌-◌, ◌<◌, ◌≤◌, min, Bool, true, false, not, ◌&&◌, ltb, leb, List, length, get_or, sym, ◌∙◌, subst, ⊎_elim, arith}
-use Rattle.std.proofs.lemmas.Bool.{cases_Bool, cases_lt, lt-ltb, le-ltb}
+use Rattle.std.proofs.Common.{◌≡◌, ℕ, zero, suc, ◌+◌, ◌<◌, ◌≤◌, min, Bool, true, false, not, ◌&&◌, ltb, leb, List, length, get_or, Option, None, Some, MatchOption, subst, ⊎_elim, arith}
+use Rattle.std.proofs.lemmas.Bool.{cases_Bool, cases_lt, cases_order}
 use Rattle.std.proofs.lemmas.Bool.Decides.{nat_tests}
 use Rattle.encoding.specs.AnswerBytes.{least, most, stands, misfit}
 
@@ -49,39 +49,34 @@ first_misfit bs i (suc n) =
     rw e (passed_over bs i n (misfit bs (suc i) n) (out_false (length bs) i (least i) (get_or bs i 0) (most (get_or bs 1 0) i) e) (first_misfit bs (suc i) n)))
     (cases_Bool (out_of_place bs i))
 
--- one step: a byte that can't stand where it does, one that can, and none at all
-pub misfit_here : (bs : List ℕ) (i n : ℕ) → i < length bs → stands (get_or bs 1 0) i (get_or bs i 0) ≡ false → misfit bs i (suc n) ≡ i
-unfolding misfit
-misfit_here bs i n l e = rw (lt-ltb i (length bs) l, e)
+-- what a test of one byte says
+stands_true : (k i b : ℕ) → stands k i b ≡ true → Stands k i b
+stands_true k i b e = (grind (arith, nat_tests), grind (arith, nat_tests))
 
-pub misfit_on : (bs : List ℕ) (i n : ℕ) → i < length bs → stands (get_or bs 1 0) i (get_or bs i 0) ≡ true → misfit bs i (suc n) ≡ misfit bs (suc i) n
-unfolding misfit
-misfit_on bs i n l e = rw (lt-ltb i (length bs) l, e)
+stands_false : (k i b : ℕ) → stands k i b ≡ false → Stands k i b → ⊥
+stands_false k i b e h = grind (arith, nat_tests)
 
-pub misfit_past : (bs : List ℕ) (i n : ℕ) → length bs ≤ i → misfit bs i n ≡ i + n
-unfolding misfit
-misfit_past bs i zero l = omega arith
-misfit_past bs i (suc n) l = rw (le-ltb i (length bs) l) (misfit_past bs (suc i) n (omega arith) ∙ omega arith)
-
--- the same as the steps of a loop over the places 1 to 6, which knows that the first misfit is the first from i on
-pub misfit_stop : (bs : List ℕ) (i : ℕ) → i < 7 → i < length bs → stands (get_or bs 1 0) i (get_or bs i 0) ≡ false → misfit bs i (7 - i) ≡ misfit bs 1 6 → i ≡ misfit bs 1 6
-misfit_stop bs i h l e k = let n : 7 - i ≡ suc (6 - i) = omega arith in sym (misfit_here bs i (6 - i) l e) ∙ rw (← n) k
-
-pub misfit_next : (bs : List ℕ) (i : ℕ) → i < 7 → i < length bs → stands (get_or bs 1 0) i (get_or bs i 0) ≡ true → misfit bs i (7 - i) ≡ misfit bs 1 6 →
-    misfit bs (i + 1) (7 - (i + 1)) ≡ misfit bs 1 6
-misfit_next bs i h l e k =
-    let n : 7 - i ≡ suc (6 - i) = omega arith in
-    let m : i + 1 ≡ suc i = omega arith in
-    let o : 7 - (i + 1) ≡ 6 - i = omega arith in
-    rw (o, m) (sym (misfit_on bs i (6 - i) l e) ∙ rw (← n) k)
-
-pub misfit_end : (bs : List ℕ) (i : ℕ) → i ≤ 7 → min (length bs) 7 ≤ i → misfit bs i (7 - i) ≡ misfit bs 1 6 → 7 ≡ misfit bs 1 6
-unfolding misfit
-misfit_end bs i h l k =
+-- a place is the first misfit where the byte there can't stand and those before it can; and where all that there are can stand, there is none
+pub misfit_found : (bs : List ℕ) (e : ℕ) → e ≡ min (length bs) 7 → (r : Option ℕ) →
+    MatchOption r ((j : ℕ) → 1 ≤ j → j < e → stands (get_or bs 1 0) j (get_or bs j 0) ≡ true)
+    (λ p. (1 ≤ p) × (p < e) × (stands (get_or bs 1 0) p (get_or bs p 0) ≡ false) × ((j : ℕ) → 1 ≤ j → j < p → stands (get_or bs 1 0) j (get_or bs j 0) ≡ true)) →
+    MatchOption r (misfit bs 1 6 ≡ 7) (λ p. (p < length bs) × (p ≡ misfit bs 1 6))
+misfit_found bs e is None all =
+    let r = first_misfit bs 1 6 in
     ⊎_elim
-    (λ (p : i < length bs). let e : i ≡ 7 = omega arith in rw e at k)
-    (λ (p : length bs ≤ i). let e : i + (7 - i) ≡ 7 = omega arith in sym e ∙ sym (misfit_past bs i (7 - i) p) ∙ k)
-    (cases_lt i (length bs))
+    (λ (l : misfit bs 1 6 < 7). absurd ((r.3 l).1 (stands_true _ _ _ (all (misfit bs 1 6) r.0 (omega (arith, (r.3 l).0))))))
+    (λ (l : 7 ≤ misfit bs 1 6). omega (arith, r.1))
+    (cases_lt (misfit bs 1 6) 7)
+misfit_found bs e is (Some p) h =
+    let r = first_misfit bs 1 6 in (
+      omega (arith, h.1),
+      ⊎_elim
+          (λ same. same)
+          (⊎_elim
+          (λ (l : p < misfit bs 1 6). absurd (stands_false _ _ _ h.2 (r.2 p h.0 l (omega (arith, h.1)))))
+          (λ (l : misfit bs 1 6 < p). absurd ((r.3 (omega (arith, h.1))).1 (stands_true _ _ _ (h.3 (misfit bs 1 6) r.0 l)))))
+          (cases_order p (misfit bs 1 6)),
+    )
 
 -- where the first byte out of place would be just behind them all, there are seven, and each can stand where it does
 pub misfit_whole : (bs : List ℕ) → length bs ≡ misfit bs 1 6 → (misfit bs 1 6 ≡ 7) × ((i : ℕ) → 1 ≤ i → i < 7 → Stands (get_or bs 1 0) i (get_or bs i 0))

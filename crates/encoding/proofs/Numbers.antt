@@ -1,8 +1,8 @@
 -- Numbers as bytes and back: two bytes, four bytes, and lists of two bytes each.
-use Rattle.std.proofs.Common.{◌≡◌, ℕ, zero, suc, ◌+◌, ◌*◌, ◌/◌, ◌%◌, ◌<◌, List, [], ◌∷◌, ◌++◌, length, get_or, take, set, refl, ap, append_assoc, arith}
+use Rattle.std.proofs.Common.{◌≡◌, ℕ, zero, suc, ◌+◌, ◌*◌, ◌/◌, ◌%◌, ◌<◌, List, [], ◌∷◌, ◌++◌, length, get_or, take, refl, arith}
 use native.Mathlib.Nat.{div-div-eq-div-mul}
 use Rattle.std.specs.List.{AllByRecursion}
-use Rattle.std.proofs.lemmas.List.{length-set, take_more, take_more_set}
+use Rattle.std.specs.Simd.{first_chunks}
 use Rattle.encoding.specs.Bytes.{Bytes, two, four, twos, two_at, words}
 
 -- a number that fits two bytes is what they hold
@@ -50,17 +50,6 @@ unfolding twos
 length-twos [] = refl
 length-twos (n ∷ ns) = let h = length-twos ns in omega arith
 
--- the numbers of two lists, one after the other
-pub twos-append : (ms ns : List ℕ) → twos (ms ++ ns) ≡ twos ms ++ twos ns
-unfolding twos
-twos-append [] ns = refl
-twos-append (m ∷ ms) ns = ap (λ bs. m % 256 ∷ m / 256 % 256 ∷ bs) (twos-append ms ns)
-
--- one number alone
-pub twos_one : (n : ℕ) → twos (n ∷ []) ≡ two n
-unfolding twos
-twos_one n = refl
-
 -- what numbers are written as are bytes
 pub Bytes-twos : (ns : List ℕ) → Bytes (twos ns)
 unfolding twos
@@ -93,27 +82,20 @@ length-words (a ∷ []) = refl
 length-words (a ∷ b ∷ bs) = let h = length-words bs in omega arith
 
 -- each is the number that its two bytes hold
-pub get_or-words : (bs : List ℕ) (i : ℕ) → 2 * i + 1 < length bs → get_or (words bs) i 0 ≡ two_at bs (2 * i)
+pub chunk-words : (bs : List ℕ) (n i : ℕ) (d : List ℕ) → n ≡ length bs / 2 → i < n → two_at (get_or (first_chunks 2 n bs) i d) 0 ≡ get_or (words bs) i 0
 unfolding words
-get_or-words [] i h = absurd (omega arith)
-get_or-words (a ∷ []) i h = absurd (omega arith)
-get_or-words (a ∷ b ∷ bs) zero h = refl
-get_or-words (a ∷ b ∷ bs) (suc i) h =
-    let e : 2 * suc i ≡ suc (suc (2 * i)) = omega arith in
-    let f : suc (suc (2 * i)) + 1 ≡ suc (suc (2 * i + 1)) = omega arith in
-    rw (e, f) (get_or-words bs i (omega arith))
+chunk-words [] n i d e h = absurd (omega arith)
+chunk-words (a ∷ []) n i d e h = absurd (omega arith)
+chunk-words (a ∷ b ∷ bs) zero i d e h = absurd (omega arith)
+chunk-words (a ∷ b ∷ bs) (suc n) zero d e h = refl
+chunk-words (a ∷ b ∷ bs) (suc n) (suc i) d e h = chunk-words bs n i d (omega arith) (omega arith)
 
--- one number more: the two bytes behind those of i numbers
-pub twos_more : (ns out : List ℕ) (i a b : ℕ) → i < length ns → 2 * i + 1 < length out → take (2 * i) out ≡ twos (take i ns) →
-    a ∷ b ∷ [] ≡ two (get_or ns i 0) → take (2 * (i + 1)) (set (set out (2 * i) a) (2 * i + 1) b) ≡ twos (take (i + 1) ns)
-twos_more ns out i a b h l inv e =
-    let at : 2 * (i + 1) ≡ 2 * i + 1 + 1 = omega arith in
-    let in_a : 2 * i < length out = omega arith in
-    let in_b : 2 * i + 1 < length (set out (2 * i) a) = simp length-set l in
-    let x = take_more_set (set out (2 * i) a) (2 * i + 1) b in_b in
-    let y = take_more_set out (2 * i) a in_a in
-    let z = take_more ns i 0 h in
-    let v = twos-append (take i ns) (get_or ns i 0 ∷ []) in
-    let u = twos_one (get_or ns i 0) in
-    let s = append_assoc (take (2 * i) out) (a ∷ []) (b ∷ []) in
-    rw (at, x, y, z, v, u, ← e, ← inv, s)
+-- what is known of numbers that are read
+pub ruleset words_read = (length-words, chunk-words)
+
+-- one number more: its two bytes behind those of i numbers
+pub twos_more : (ns : List ℕ) (i : ℕ) → i < length ns → twos (take (i + 1) ns) ≡ twos (take i ns) ++ two (get_or ns i 0)
+unfolding twos
+twos_more [] i h = absurd (omega arith)
+twos_more (n ∷ ns) zero h = refl
+twos_more (n ∷ ns) (suc i) h = let e : suc i + 1 ≡ suc (i + 1) = omega arith in rw (e, twos_more ns i (omega arith))

@@ -104,7 +104,7 @@ refusal_of (suc (suc (suc (suc (suc zero))))) c d e f l h p q r s = let z : c + 
 refusal_of (suc (suc (suc (suc (suc (suc a)))))) c d e f l h p q r s = absurd (omega arith)
 
 -- in the list's terms: such bytes hold a number of one byte, and it has that place
-pub stand_refusal : (bs : List ℕ) → ((i : ℕ) → 1 ≤ i → i < 7 → Stands (get_or bs 1 0) i (get_or bs i 0)) → (two_at bs 1 ≡ get_or bs 1 0) × (refusal (get_or bs 1 0) (four_at bs 3) ≡ true)
+pub stand_refusal : (bs : List ℕ) → ((i : ℕ) → 1 ≤ i → i < 7 → Stands (get_or bs 1 0) i (get_or bs i 0)) → refusal (two_at bs 1) (four_at bs 3) ≡ true
 stand_refusal bs at =
     let s1 = at 1 (lit≤ tt) (lit< tt) in
     let s2 = at 2 (lit≤ tt) (lit< tt) in
@@ -112,7 +112,8 @@ stand_refusal bs at =
     let s4 = at 4 (lit≤ tt) (lit< tt) in
     let s5 = at 5 (lit≤ tt) (lit< tt) in
     let s6 = at 6 (lit≤ tt) (lit< tt) in
-    (omega (arith, s2.1), refusal_of (get_or bs 1 0) (get_or bs 3 0) (get_or bs 4 0) (get_or bs 5 0) (get_or bs 6 0) s1.0 s1.1 s3.1 s4.1 s5.1 s6.1)
+    let e : two_at bs 1 ≡ get_or bs 1 0 = omega (arith, s2.1) in
+    rw e (refusal_of (get_or bs 1 0) (get_or bs 3 0) (get_or bs 4 0) (get_or bs 5 0) (get_or bs 6 0) s1.0 s1.1 s3.1 s4.1 s5.1 s6.1)
 
 -- and such seven bytes are what that refusal is written as
 pub refusing_whole : (bs : List ℕ) → Refusing bs →
@@ -130,7 +131,7 @@ refusing_whole (z ∷ a ∷ b ∷ c ∷ d ∷ e ∷ f ∷ []) h =
     let r = stand_refusal (z ∷ a ∷ b ∷ c ∷ d ∷ e ∷ f ∷ []) h.3 in
     let t = two_of a b y.0 y.1.0 in
     let u = four_of c d e f y.1.1.0 y.1.1.1.0 y.1.1.1.1.0 y.1.1.1.1.1.0 in (
-      (rw r.0 r.1, omega (arith, y.1.1.0, y.1.1.1.0, y.1.1.1.1.0, y.1.1.1.1.1.0)),
+      (r, omega (arith, y.1.1.0, y.1.1.1.0, y.1.1.1.1.0, y.1.1.1.1.1.0)),
       ap (λ (x : List ℕ). 0 ∷ (x ++ four (c + d * 256 + e * 65536 + f * 16777216))) t ∙ ap (λ (x : List ℕ). 0 ∷ a ∷ b ∷ x) u ∙ ap (λ (x : ℕ). x ∷ a ∷ b ∷ c ∷ d ∷ e ∷ f ∷ []) (sym h.1),
     )
 

@@ -4,43 +4,36 @@
 ghost use Rattle.encoding.specs.Laws.{CallsReadBack, CallOrPlace, CallsToldApart, AnswersReadBack, AnswerOrPlace, AnswersToldApart};
 
 // A call that is written is read back as itself.
-pub fn calls_read_back() -> u8
+#[tactic(auto, using(crate::proofs::CallLaws::calls_read_back))]
+pub fn calls_read_back()
     ensures { CallsReadBack }
-{
-    0
-}
+{}
 
 // Every row of bytes is the one writing of the call that it is read as, or ceases to be one at the place that is told.
-pub fn call_or_place() -> u8
+#[tactic(auto, using(crate::proofs::CallLaws::call_or_place))]
+pub fn call_or_place()
     ensures { CallOrPlace }
-{
-    0
-}
+{}
 
 // Two calls are never written as the same bytes.
-pub fn calls_told_apart() -> u8
+#[tactic(auto, using(crate::proofs::CallLaws::calls_told_apart))]
+pub fn calls_told_apart()
     ensures { CallsToldApart }
-{
-    0
-}
+{}
 
 // An answer that is written is read back as itself.
-pub fn answers_read_back() -> u8
+#[tactic(auto, using(crate::proofs::AnswerLaws::answers_read_back))]
+pub fn answers_read_back()
     ensures { AnswersReadBack }
-{
-    0
-}
+{}
 
 // Every row of bytes is the one writing of the answer that it is read as, or ceases to be one at the place that is told.
-pub fn answer_or_place() -> u8
+#[tactic(auto, using(crate::proofs::AnswerLaws::answer_or_place))]
+pub fn answer_or_place()
     ensures { AnswerOrPlace }
-{
-    0
-}
+{}
 
 // Two answers are never written as the same bytes.
-pub fn answers_told_apart() -> u8
+pub fn answers_told_apart()
     ensures { AnswersToldApart }
-{
-    0
-}
+{}

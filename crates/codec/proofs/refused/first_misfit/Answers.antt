@@ -1,18 +1,13 @@
--- Place by place; behind the last byte nothing is out of place.
-use Rattle.std.proofs.Common.{sym, refl, arith}
-use Rattle.encoding.proofs.Misfits.{misfit_stop, misfit_next, misfit_end}
+-- The first place that `find` tells is the first misfit; behind the last byte nothing is out of place.
+use Rattle.std.proofs.Common.{◌≡◌, true, false, get_or, rules}
+use borrow.Author.Tests.{tests}
+use Rattle.std.proofs.lemmas.Iterator.{first_from_Range}
+use Rattle.encoding.specs.AnswerBytes.{stands}
+use Rattle.encoding.proofs.Misfits.{misfit_found}
 use Rattle.codec.proofs.refused.first_misfit.Goals as goal
 
-pub returns-then-not-stands : goal.returns-then-not-stands
-returns-then-not-stands c =
-    record {
-      value = misfit_stop c.args.bytes.now c.loop-place.place (omega arith) (omega arith) (sym c.if-not-stands.ensures) c.loop-place.invariant.1;
-      whole = λ e. absurd (omega arith);
-    }
-
-pub loop-place-preserved : goal.loop-place-preserved
-loop-place-preserved c =
-    (omega arith, misfit_next c.args.bytes.now c.loop-place.place (omega arith) (omega arith) (sym c.if-not-stands.ensures) c.loop-place.invariant.1)
-
 pub returns : goal.returns
-returns c = record { value = misfit_end c.args.bytes.now c.loop-place.place c.loop-place.invariant.0 (omega arith) c.loop-place.invariant.1; whole = λ _. refl }
+returns c =
+    let bs = c.args.bytes.now in
+    misfit_found bs c.min.result c.min.ensures c.find.result
+    (first_from_Range _ _ _ c.find.result (λ p. stands (get_or bs 1 0) p (get_or bs p 0) ≡ false) (λ p. stands (get_or bs 1 0) p (get_or bs p 0) ≡ true) c.find.ensures.ran (λ x q k. search (rules, tests)) (λ x q k. search (rules, tests)))

@@ -1,7 +1,7 @@
 -- Cells and ways: what was lent is the answer's bytes and what was behind them, and their numbers fit these.
 use Rattle.std.proofs.Common.{rules}
 use Rattle.codec.proofs.Lent.{way_written, cells_written, cells_fit, moves_fit}
-use Rattle.codec.proofs.answer.write.Goals as goal
+use Rattle.codec.proofs.answer.Answer.write.Goals as goal
 
 pub returns-in-Cells : goal.returns-in-Cells
 returns-in-Cells c =
