@@ -9,7 +9,7 @@ use super::misread::Misread;
 use super::refusal::Refusal;
 use super::size::{behind_first, exactly};
 
-// What the desk answers.
+// What the desk answers. It holds no reference, as the desk has no heap: cells lie beside it, and moves in lent bytes.
 #[derive(Clone, Copy, PartialEq, Eq, Debug)]
 pub enum Answer {
     // The call is turned away.
@@ -99,7 +99,7 @@ impl Answer {
 
     // The same of bytes of which the first is the number of the answer.
     #[tactic(auto, using(encoding::proofs::Numbers::words_read, std::proofs::lemmas::Grind::common_steps))]
-    fn decode_by(number: u8, bytes: &[u8]) -> Result<Answer, Misread>
+    fn decode_by(number: u8, bytes: &[u8]) -> Result<Self, Misread>
         ensures value { as_read (told_in bytes.now) result ≡ read_answer_by number bytes.now }
         ensures whole { IfOk result (λ a. size a (length (words (drop 3 bytes.now))) ≡ length bytes.now) }
     {
@@ -130,7 +130,7 @@ impl Answer {
 
     // The answer that the bytes are, or the place of the first that does not fit. Cells stand from the fourth byte on, two bytes
     // each, and the moves of a way from the sixth on.
-    pub fn decode(bytes: &[u8]) -> Result<Answer, Misread>
+    pub fn decode(bytes: &[u8]) -> Result<Self, Misread>
         ensures value { as_read (told_in bytes.now) result ≡ read_answer bytes.now }
         ensures whole { IfOk result (λ a. size a (length (words (drop 3 bytes.now))) ≡ length bytes.now) }
         ensures law { MatchResult result

@@ -36,8 +36,9 @@ impl<'a> Call<'a> {
                 Ok(Call::Lay(&request[3..]))
             }
             1 => {
+                let [step] = behind_first::<1>(request)?;
                 exactly(request, 2)?;
-                Ok(Call::Move(request[1]))
+                Ok(Call::Move(step))
             }
             2 => {
                 exactly(request, 1)?;

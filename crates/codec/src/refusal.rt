@@ -46,7 +46,7 @@ impl Refusal {
     }
 
     // The refusal that has this number and place, if one of the list has.
-    pub fn listed(number: u16, place: u32) -> Option<Refusal>
+    pub fn listed(number: u16, place: u32) -> Option<Self>
         ensures { MatchOption result
             (refusal number place ≡ false)
             (λ e. (refusal number place ≡ true) × (number_of e ≡ number) × (place_of e ≡ place)) }

@@ -32,7 +32,7 @@ fn first_misfit(bytes: &[u8]) -> Option<usize>
 
 impl Refusal {
     // The refusal that an answer's bytes are, of which the first is 0; or the place of the first that does not fit.
-    pub fn decode(bytes: &[u8]) -> Result<Refusal, Misread>
+    pub(super) fn decode(bytes: &[u8]) -> Result<Self, Misread>
         ensures value { as_read turned_away result ≡ read_refusal bytes.now }
         ensures whole { OnOk result (length bytes.now ≡ 7) }
     {
@@ -42,6 +42,7 @@ impl Refusal {
         exactly(bytes, 7)?;
         let number = u16::from_le_bytes([bytes[1], bytes[2]]);
         let place = u32::from_le_bytes([bytes[3], bytes[4], bytes[5], bytes[6]]);
+        // Bytes that can stand where they do are a refusal of the list.
         Ok(Refusal::listed(number, place).unwrap())
     }
 }

@@ -1,12 +1,13 @@
 -- Answers as bytes: read back as they are written, and where bytes cease to be an answer.
 use Rattle.std.proofs.Common.{◌≡◌, ℕ, zero, suc, ◌+◌, ◌*◌, ◌<◌, eqb, List, [], ◌∷◌, ◌++◌, length, drop, Ok, Err, MatchBool, refl, ap, ◌∙◌, subst, inl, arith, MatchResult}
+use Rattle.std.proofs.lemmas.Bool.Decides.{nat_tests}
 use Rattle.slide.specs.Calls as calls
 use Rattle.encoding.specs.Bytes.{Bytes, two, four, twos, two_at, four_at, words}
 use Rattle.encoding.specs.Formats.{Begins, StopsAt}
 use Rattle.encoding.specs.AnswerBytes.{AnswerFits, answer_bytes, AnswerWriting, misfit, read_answer_by, read_answer}
 use Rattle.encoding.specs.Laws.{AnswersReadBack, AnswerOrPlace, AnswersToldApart}
 use Rattle.encoding.proofs.Numbers.{two_value, two_of, four_value, four_of, words-twos}
-use Rattle.encoding.proofs.Stops.{Headed, ByHead, nothing, headed_exactly, tagged_headed, tagged_alone, by_exactly, unknown_stops, above_four, read_first}
+use Rattle.encoding.proofs.Stops.{Headed, ByHead, nothing, headed_exactly, tagged_headed, tagged_alone, by_exactly, unknown_stops, read_first}
 use Rattle.encoding.proofs.Counted.{counted, by_count, counted_twos, twos_counted, nothing_else}
 use Rattle.encoding.proofs.Refusals.{Refusing, refusal_small, refused_refusing, refusing_whole, refusing_misfit, misfit_refusing, refusing_stops}
 use Rattle.encoding.proofs.Values.{told_apart, value_or_place}
@@ -53,9 +54,7 @@ written_behind bs w = subst Behind w.2 (behind w.0 w.1)
 
 -- no answer has another number
 unknown_answer : (k : ℕ) → 4 < k → (bs : List ℕ) → AnswerWriting (k ∷ bs) → ⊥
-unknown_answer k h bs w =
-    let e = above_four k h in
-    rw (e.0, e.1, e.2, e.3, e.4) at (written_behind (k ∷ bs) w)
+unknown_answer k h bs w = let b = written_behind (k ∷ bs) w in grind (arith, nat_tests)
 
 -- there are answers
 some_answer : Begins AnswerWriting []
@@ -63,9 +62,7 @@ some_answer = (4 ∷ [], (calls.never, tt, refl))
 
 -- nothing is read of bytes with another number
 read_unknown : (k : ℕ) → 4 < k → (bs : List ℕ) → read_answer (k ∷ bs) ≡ Err 0
-read_unknown k h bs =
-    let e = above_four k h in
-    rw (read_first read_answer_by k bs, e.0, e.1, e.2, e.3, e.4)
+read_unknown k h bs = grind (arith, nat_tests)
 
 -- two bytes behind 1 are a number
 number_whole : (bs : List ℕ) → Headed 2 nothing bs → Whole (calls.number (two_at bs 0)) (1 ∷ bs)

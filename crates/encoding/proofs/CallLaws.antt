@@ -1,5 +1,6 @@
 -- Calls as bytes: read back as they are written, and where bytes cease to be a call.
 use Rattle.std.proofs.Common.{◌≡◌, ℕ, zero, suc, ◌<◌, eqb, List, [], ◌∷◌, ◌++◌, length, get_or, drop, Err, MatchBool, refl, ap, subst, inl, arith, MatchResult}
+use Rattle.std.proofs.lemmas.Bool.Decides.{nat_tests}
 use Rattle.slide.specs.Calls as calls
 use Rattle.encoding.specs.Bytes.{Bytes, two, twos, words}
 use Rattle.encoding.specs.Formats.{Begins, StopsAt}
@@ -7,7 +8,7 @@ use Rattle.encoding.specs.CallBytes.{CallFits, call_bytes, CallWriting, read_cal
 use Rattle.encoding.specs.Laws.{CallsReadBack, CallOrPlace, CallsToldApart}
 use Rattle.encoding.proofs.Numbers.{words-twos}
 use Rattle.encoding.proofs.Counted.{counted, by_count, counted_twos, twos_counted, nothing_else}
-use Rattle.encoding.proofs.Stops.{Headed, nothing, headed_exactly, tagged_headed, tagged_alone, unknown_stops, above_four, read_first}
+use Rattle.encoding.proofs.Stops.{Headed, nothing, headed_exactly, tagged_headed, tagged_alone, unknown_stops, read_first}
 use Rattle.encoding.proofs.Values.{told_apart, value_or_place}
 
 -- what follows the number of a call
@@ -35,9 +36,7 @@ written_behind bs w = subst Behind w.2 (behind w.0 w.1)
 
 -- no call has another number
 unknown_call : (k : ℕ) → 4 < k → (bs : List ℕ) → CallWriting (k ∷ bs) → ⊥
-unknown_call k h bs w =
-    let e = above_four k h in
-    rw (e.0, e.1, e.2, e.3, e.4) at (written_behind (k ∷ bs) w)
+unknown_call k h bs w = let b = written_behind (k ∷ bs) w in grind (arith, nat_tests)
 
 -- there are calls
 some_call : Begins CallWriting []
@@ -45,9 +44,7 @@ some_call = (2 ∷ [], (calls.shows, tt, refl))
 
 -- nothing is read of bytes with another number
 read_unknown : (k : ℕ) → 4 < k → (bs : List ℕ) → read_call (k ∷ bs) ≡ Err 0
-read_unknown k h bs =
-    let e = above_four k h in
-    rw (read_first read_call_by k bs, e.0, e.1, e.2, e.3, e.4)
+read_unknown k h bs = grind (arith, nat_tests)
 
 -- a call that fits and is written so
 abbrev Whole : calls.Call → List ℕ → Type 0

@@ -56,17 +56,21 @@ stands_true k i b e = (grind (arith, nat_tests), grind (arith, nat_tests))
 stands_false : (k i b : ℕ) → stands k i b ≡ false → Stands k i b → ⊥
 stands_false k i b e h = grind (arith, nat_tests)
 
+-- where each byte that there is can stand, there is no misfit
+pub misfit_none : (bs : List ℕ) → ((i : ℕ) → 1 ≤ i → i < 7 → i < length bs → Stands (get_or bs 1 0) i (get_or bs i 0)) → misfit bs 1 6 ≡ 7
+misfit_none bs at =
+    let r = first_misfit bs 1 6 in
+    ⊎_elim
+    (λ (l : misfit bs 1 6 < 7). absurd ((r.3 l).1 (at (misfit bs 1 6) r.0 l (r.3 l).0)))
+    (λ (l : 7 ≤ misfit bs 1 6). omega (arith, r.1))
+    (cases_lt (misfit bs 1 6) 7)
+
 -- a place is the first misfit where the byte there can't stand and those before it can; and where all that there are can stand, there is none
 pub misfit_found : (bs : List ℕ) (e : ℕ) → e ≡ min (length bs) 7 → (r : Option ℕ) →
     MatchOption r ((j : ℕ) → 1 ≤ j → j < e → stands (get_or bs 1 0) j (get_or bs j 0) ≡ true)
     (λ p. (1 ≤ p) × (p < e) × (stands (get_or bs 1 0) p (get_or bs p 0) ≡ false) × ((j : ℕ) → 1 ≤ j → j < p → stands (get_or bs 1 0) j (get_or bs j 0) ≡ true)) →
     MatchOption r (misfit bs 1 6 ≡ 7) (λ p. (p < length bs) × (p ≡ misfit bs 1 6))
-misfit_found bs e is None all =
-    let r = first_misfit bs 1 6 in
-    ⊎_elim
-    (λ (l : misfit bs 1 6 < 7). absurd ((r.3 l).1 (stands_true _ _ _ (all (misfit bs 1 6) r.0 (omega (arith, (r.3 l).0))))))
-    (λ (l : 7 ≤ misfit bs 1 6). omega (arith, r.1))
-    (cases_lt (misfit bs 1 6) 7)
+misfit_found bs e is None all = misfit_none bs (λ i p q l. stands_true _ _ _ (all i p (omega arith)))
 misfit_found bs e is (Some p) h =
     let r = first_misfit bs 1 6 in (
       omega (arith, h.1),

@@ -1,15 +1,16 @@
 -- Refusals as bytes: which bytes they are, and where bytes cease to be one.
-use Rattle.std.proofs.Common.{◌≡◌, ℕ, zero, suc, ◌+◌, ◌-◌, ◌*◌, ◌<◌, ◌≤◌, min, true, ◌&&◌, ◌||◌, eqb, ltb, ◌⊎◌, List, [], ◌∷◌, ◌++◌, length, get_or, take, sym, refl, ap, ◌∙◌, subst, inl, inr, ⊎_elim, arith, lit<, lit≤}
-use Rattle.std.proofs.lemmas.Bool.{cases_lt, or_cases, and_parts, eqb-true, ltb-true, lt-ltb, ne_eqb}
+use Rattle.std.proofs.Common.{◌≡◌, ℕ, zero, suc, ◌+◌, ◌-◌, ◌*◌, ◌<◌, ◌≤◌, min, true, ◌⊎◌, List, [], ◌∷◌, ◌++◌, length, get_or, take, sym, refl, ap, ◌∙◌, subst, inl, inr, ⊎_elim, arith, lit<, lit≤}
+use Rattle.std.proofs.lemmas.Bool.Decides.{nat_tests}
+use Rattle.std.proofs.lemmas.Bool.{cases_lt}
 use Rattle.std.proofs.ByRecursion.{All-append, All-take}
-use Rattle.std.proofs.lemmas.List.{length-append, length-take-le, get_or-take, get_or_append_left, get_or-append_right}
+use Rattle.std.proofs.lemmas.List.{length-append, length-replicate, length-take-le, get_or-take, get_or_append_left, get_or-append_right}
 use Rattle.slide.specs.Calls as calls
 use Rattle.encoding.specs.Bytes.{Bytes, two, four, two_at, four_at}
 use Rattle.encoding.specs.Formats.{Begins, StopsAt}
 use Rattle.encoding.specs.AnswerBytes.{refusal, AnswerFits, answer_bytes, most, misfit}
 use Rattle.encoding.proofs.Numbers.{two_of, four_of}
-use Rattle.encoding.proofs.Stops.{zeros, length-zeros, Bytes-zeros, get_or-zeros}
-use Rattle.encoding.proofs.Misfits.{Stands, FirstMisfit, first_misfit, misfit_whole}
+use Rattle.encoding.proofs.Stops.{zeros, Bytes-zeros, get_or-zeros}
+use Rattle.encoding.proofs.Misfits.{Stands, FirstMisfit, first_misfit, misfit_none, misfit_whole}
 
 -- what holds at each place of a refusal
 each_place : (P : ℕ → Type 0) → P 1 → P 2 → P 3 → P 4 → P 5 → P 6 → (i : ℕ) → 1 ≤ i → i < 7 → P i
@@ -36,44 +37,27 @@ data Listed : ℕ → ℕ → Type 0 where
   too_many : Listed 5 0
 
 -- each number and place that pass the test are listed
-at_opening : (p : ℕ) → p < 2 → Listed 3 p
-at_opening zero h = side
-at_opening (suc zero) h = memory
-at_opening (suc (suc p)) h = absurd (omega arith)
-
-with_no_place : (k : ℕ) → (eqb k 2 || (eqb k 4 || eqb k 5)) ≡ true → Listed k 0
-with_no_place k h =
-    ⊎_elim
-    (λ e. subst (λ n. Listed n 0) (sym (eqb-true k 2 e)) improper)
-    (λ r. ⊎_elim (λ e. subst (λ n. Listed n 0) (sym (eqb-true k 4 e)) blocked) (λ e. subst (λ n. Listed n 0) (sym (eqb-true k 5 e)) too_many) (or_cases (eqb k 4) (eqb k 5) r))
-    (or_cases (eqb k 2) (eqb k 4 || eqb k 5) h)
-
 listed : (k p : ℕ) → refusal k p ≡ true → Listed k p
-listed k p h =
-    ⊎_elim
-    (λ e. subst (λ n. Listed n p) (sym (eqb-true k 1 e)) unreadable)
-    (λ r. ⊎_elim
-    (λ b. let t = and_parts (eqb k 3) (ltb p 2) b in subst (λ n. Listed n p) (sym (eqb-true k 3 t.0)) (at_opening p (ltb-true p 2 t.1)))
-    (λ b. let t = and_parts (eqb k 2 || (eqb k 4 || eqb k 5)) (eqb p 0) b in subst (Listed k) (sym (eqb-true p 0 t.1)) (with_no_place k t.0))
-    (or_cases (eqb k 3 && ltb p 2) ((eqb k 2 || (eqb k 4 || eqb k 5)) && eqb p 0) r))
-    (or_cases (eqb k 1) ((eqb k 3 && ltb p 2) || ((eqb k 2 || (eqb k 4 || eqb k 5)) && eqb p 0)) h)
+listed zero p h = absurd (grind (arith, nat_tests))
+listed (suc zero) p h = unreadable
+listed (suc (suc zero)) zero h = improper
+listed (suc (suc zero)) (suc p) h = absurd (grind (arith, nat_tests))
+listed (suc (suc (suc zero))) zero h = side
+listed (suc (suc (suc zero))) (suc zero) h = memory
+listed (suc (suc (suc zero))) (suc (suc p)) h = absurd (grind (arith, nat_tests))
+listed (suc (suc (suc (suc zero)))) zero h = blocked
+listed (suc (suc (suc (suc zero)))) (suc p) h = absurd (grind (arith, nat_tests))
+listed (suc (suc (suc (suc (suc zero))))) zero h = too_many
+listed (suc (suc (suc (suc (suc zero))))) (suc p) h = absurd (grind (arith, nat_tests))
+listed (suc (suc (suc (suc (suc (suc k)))))) p h = absurd (grind (arith, nat_tests))
 
 -- where no byte is out of place, each can stand where it does
 by_misfit : (bs : List ℕ) → length bs ≡ 7 → misfit bs 1 6 ≡ 7 → (i : ℕ) → 1 ≤ i → i < 7 → Stands (get_or bs 1 0) i (get_or bs i 0)
 by_misfit bs l e i p q = (first_misfit bs 1 6).2 i p (rw e q) (rw l q)
 
--- the number of a refusal is small
-small : (k p : ℕ) → Listed k p → k < 65536
-small k p unreadable = lit< tt
-small k p improper = lit< tt
-small k p side = lit< tt
-small k p memory = lit< tt
-small k p blocked = lit< tt
-small k p too_many = lit< tt
-
--- and fits two bytes
+-- the number of a refusal fits two bytes
 pub refusal_small : (k p : ℕ) → refusal k p ≡ true → k < 65536
-refusal_small k p h = small k p (listed k p h)
+refusal_small k p h = grind (arith, nat_tests)
 
 -- the bytes of a refusal can stand where they stand
 stand : (k p : ℕ) → Listed k p → (i : ℕ) → 1 ≤ i → i < 7 → Stands (get_or (0 ∷ (two k ++ four p)) 1 0) i (get_or (0 ∷ (two k ++ four p)) i 0)
@@ -93,15 +77,7 @@ refused_refusing k p f =
 
 -- bytes that can stand where they stand have the number and the place of a refusal
 refusal_of : (a c d e f : ℕ) → 1 ≤ a → a ≤ 5 → c ≤ most a 3 → d ≤ most a 4 → e ≤ most a 5 → f ≤ most a 6 → refusal a (c + d * 256 + e * 65536 + f * 16777216) ≡ true
-refusal_of zero c d e f l h p q r s = absurd (omega arith)
-refusal_of (suc zero) c d e f l h p q r s = refl
-refusal_of (suc (suc zero)) c d e f l h p q r s = let z : c + d * 256 + e * 65536 + f * 16777216 ≡ 0 = omega arith in rw z
-refusal_of (suc (suc (suc zero))) c d e f l h p q r s =
-    let z : c + d * 256 + e * 65536 + f * 16777216 < 2 = omega arith in
-    rw (lt-ltb (c + d * 256 + e * 65536 + f * 16777216) 2 z)
-refusal_of (suc (suc (suc (suc zero)))) c d e f l h p q r s = let z : c + d * 256 + e * 65536 + f * 16777216 ≡ 0 = omega arith in rw z
-refusal_of (suc (suc (suc (suc (suc zero))))) c d e f l h p q r s = let z : c + d * 256 + e * 65536 + f * 16777216 ≡ 0 = omega arith in rw z
-refusal_of (suc (suc (suc (suc (suc (suc a)))))) c d e f l h p q r s = absurd (omega arith)
+refusal_of a c d e f l h p q r s = grind (arith, nat_tests)
 
 -- in the list's terms: such bytes hold a number of one byte, and it has that place
 pub stand_refusal : (bs : List ℕ) → ((i : ℕ) → 1 ≤ i → i < 7 → Stands (get_or bs 1 0) i (get_or bs i 0)) → refusal (two_at bs 1) (four_at bs 3) ≡ true
@@ -139,12 +115,7 @@ refusing_whole (z ∷ a ∷ b ∷ c ∷ d ∷ e ∷ f ∷ []) h =
 
 -- no byte of a refusal is out of place
 pub refusing_misfit : (bs : List ℕ) → Refusing bs → misfit bs 1 6 ≡ 7
-refusing_misfit bs h =
-    let r = first_misfit bs 1 6 in
-    ⊎_elim
-    (λ (l : misfit bs 1 6 < 7). absurd ((r.3 l).1 (h.3 (misfit bs 1 6) r.0 l)))
-    (λ (l : 7 ≤ misfit bs 1 6). omega (arith, r.1))
-    (cases_lt (misfit bs 1 6) 7)
+refusing_misfit bs h = misfit_none bs (λ i p q l. h.3 i p q)
 
 -- where the first byte out of place would be just behind them all, the bytes are a refusal
 pub misfit_refusing : (bs : List ℕ) → Bytes bs → suc (length bs) ≡ misfit (0 ∷ bs) 1 6 → Refusing (0 ∷ bs)
@@ -152,7 +123,7 @@ misfit_refusing bs b e = let r = misfit_whole (0 ∷ bs) e in (e ∙ r.0, refl, 
 
 -- a zero can stand behind the number
 stands_zero : (k i : ℕ) → 1 < i → Stands k i 0
-stands_zero k i h = (rw (ne_eqb i 1 (λ e. omega arith)) (omega arith), omega arith)
+stands_zero k i h = (grind (arith, nat_tests), omega arith)
 
 -- bytes that can stand where they stand are filled up to a refusal
 filled_refusal : (bs : List ℕ) → Bytes bs → 2 ≤ length bs → length bs ≤ 7 → get_or bs 0 0 ≡ 0 →
@@ -163,7 +134,7 @@ filled_refusal bs b p q z at = (rest, (omega (arith, len), first, All-append (λ
     rest = zeros (7 - length bs)
 
     len : length (bs ++ rest) ≡ length bs + (7 - length bs)
-    len = length-append bs rest ∙ ap (λ n. length bs + n) (length-zeros (7 - length bs))
+    len = length-append bs rest ∙ ap (λ n. length bs + n) (length-replicate {A = ℕ} (7 - length bs) 0)
 
     first : get_or (bs ++ rest) 0 0 ≡ 0
     first = get_or_append_left bs rest 0 0 (omega arith) ∙ z

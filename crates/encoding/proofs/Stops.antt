@@ -1,8 +1,9 @@
 -- Where bytes cease to be a writing: of a head that tells how many bytes follow, and behind a first byte that tells what follows.
-use Rattle.std.proofs.Common.{◌≡◌, ℕ, zero, suc, ◌+◌, ◌-◌, ◌<◌, ◌≤◌, min, false, eqb, List, [], ◌∷◌, ◌++◌, length, get_or, take, drop, replicate, Ok, Result, sym, refl, ap, ◌∙◌, subst, inl, inr, ⊎_elim, append_assoc, arith, MatchResult}
+use Rattle.std.proofs.Common.{◌≡◌, ℕ, zero, suc, ◌+◌, ◌-◌, ◌<◌, ◌≤◌, min, List, [], ◌∷◌, ◌++◌, length, get_or, take, drop, replicate, Ok, Result, sym, refl, ap, ◌∙◌, subst, inl, inr, ⊎_elim, append_assoc, arith, MatchResult}
 use Rattle.std.proofs.lemmas.List.{length-append, length-replicate, length-take-le, take_all, take-append-drop}
 use Rattle.std.proofs.ByRecursion.{All-append, All-take}
-use Rattle.std.proofs.lemmas.Bool.{cases_lt, cases_eq, cases_order, eq-eqb, ne_eqb, lt-ltb, le-ltb}
+use Rattle.std.proofs.lemmas.Bool.Decides.{nat_tests}
+use Rattle.std.proofs.lemmas.Bool.{cases_lt, cases_order}
 use Rattle.encoding.specs.Bytes.{Bytes}
 use Rattle.encoding.specs.Formats.{exactly, sized, by_first, Writing, Begins, StopsAt}
 
@@ -18,10 +19,7 @@ ByHead k tells = (bs rest : List ℕ) → k ≤ length bs → tells (bs ++ rest)
 abbrev pub zeros : ℕ → List ℕ
 zeros n = replicate n 0
 
--- there are so many, each is a byte, and each is 0
-pub length-zeros : (n : ℕ) → length (zeros n) ≡ n
-length-zeros n = length-replicate {A = ℕ} n 0
-
+-- each is a byte, and each is 0
 pub Bytes-zeros : (n : ℕ) → Bytes (zeros n)
 Bytes-zeros zero = tt
 Bytes-zeros (suc n) = (omega arith, Bytes-zeros n)
@@ -36,7 +34,7 @@ filled : (k : ℕ) (tells : List ℕ → ℕ) → ByHead k tells → (bs : List 
 filled k tells by bs b h l =
     let rest = zeros (k + tells bs - length bs) in
     let n = length-append bs rest in
-    let z = length-zeros (k + tells bs - length bs) in
+    let z = length-replicate {A = ℕ} (k + tells bs - length bs) 0 in
     (rest, (omega arith, omega (arith, by bs rest h), All-append (λ c. c < 256) bs rest b (Bytes-zeros (k + tells bs - length bs))))
 
 -- what begins with more begins with less
@@ -48,7 +46,7 @@ begun : (k : ℕ) (tells : List ℕ → ℕ) → ByHead k tells → (bs : List �
 begun k tells by bs b h =
     let cs = zeros (k - length bs) in
     let n = length-append bs cs in
-    let z = length-zeros (k - length bs) in
+    let z = length-replicate {A = ℕ} (k - length bs) 0 in
     begins_before (Headed k tells) bs cs
     (filled k tells by (bs ++ cs) (All-append (λ c. c < 256) bs cs b (Bytes-zeros (k - length bs))) (omega arith) (omega arith))
 
@@ -85,22 +83,22 @@ headed_stops k tells by bs b other = ⊎_elim few enough (cases_lt (length bs) k
 
     few : length bs < k → Goal
     few h =
-        let e : min (length bs) (sized bs k (tells bs)) ≡ length bs = rw (lt-ltb (length bs) k h) (omega arith) in
+        let e : min (length bs) (sized bs k (tells bs)) ≡ length bs = grind (arith, nat_tests) in
         rw e (short k tells bs (λ w. omega (arith, w.0)) (begun k tells by bs b h))
 
     between : k ≤ length bs → length bs < k + tells bs → Goal
     between h l =
-        let e : min (length bs) (sized bs k (tells bs)) ≡ length bs = rw (le-ltb (length bs) k h) (omega arith) in
+        let e : min (length bs) (sized bs k (tells bs)) ≡ length bs = grind (arith, nat_tests) in
         rw e (short k tells bs (λ w. omega (arith, w.1)) (filled k tells by bs b h (omega arith)))
 
     many : k ≤ length bs → k + tells bs < length bs → Goal
     many h l =
-        let e : min (length bs) (sized bs k (tells bs)) ≡ k + tells bs = rw (le-ltb (length bs) k h) (omega arith) in
+        let e : min (length bs) (sized bs k (tells bs)) ≡ k + tells bs = grind (arith, nat_tests) in
         rw e (long k tells by bs b l)
 
     enough : k ≤ length bs → Goal
     enough h =
-        ⊎_elim (λ e. absurd (other (rw (le-ltb (length bs) k h) e))) (⊎_elim (between h) (many h)) (cases_order (length bs) (k + tells bs))
+        ⊎_elim (λ e. absurd (other (grind (arith, nat_tests)))) (⊎_elim (between h) (many h)) (cases_order (length bs) (k + tells bs))
 
 -- behind a first byte t that W and R agree on, bytes cease where those behind it do
 pub tagged_stops : (W R : List ℕ → Type 0) (t : ℕ) → ((bs : List ℕ) → R bs → W (t ∷ bs)) → ((bs : List ℕ) → W (t ∷ bs) → R bs) →
@@ -117,32 +115,20 @@ tagged_stops W R t into out bs p s =
 -- a value with just so many bytes, or the place where they end or go on
 pub by_exactly : {X : Type 0} (bs : List ℕ) (n : ℕ) (x : X) (P : X → Type 0) (Q : ℕ → Type 0) →
     (length bs ≡ n → P x) → ((length bs ≡ n → ⊥) → Q (min (length bs) n)) → MatchResult (exactly bs n x) P Q
-by_exactly bs n x P Q whole other =
-    ⊎_elim (λ e. rw (eq-eqb (length bs) n e) (whole e)) (λ d. rw (ne_eqb (length bs) n d) (other d)) (cases_eq (length bs) n)
+by_exactly bs n x P Q whole other = grind (arith, nat_tests)
 
 -- how many bytes there are, behind a first one
 sized_behind : (t : ℕ) (bs : List ℕ) (k f : ℕ) → sized (t ∷ bs) (suc k) f ≡ suc (sized bs k f)
-sized_behind t bs k f =
-    ⊎_elim
-    (λ (h : length bs < k). rw (lt-ltb (length bs) k h, lt-ltb (suc (length bs)) (suc k) (omega arith)))
-    (λ (h : k ≤ length bs). rw (le-ltb (length bs) k h, le-ltb (suc (length bs)) (suc k) (omega arith)) (omega arith))
-    (cases_lt (length bs) k)
+sized_behind t bs k f = grind (arith, nat_tests)
 
 -- as many bytes as there should be are a head and what it tells
 whole_headed : (k : ℕ) (tells : List ℕ → ℕ) (bs : List ℕ) → Bytes bs → length bs ≡ sized bs k (tells bs) → Headed k tells bs
-whole_headed k tells bs b e =
-    ⊎_elim
-    (λ (h : length bs < k). absurd (omega (arith, h, rw (lt-ltb (length bs) k h) at e)))
-    (λ (h : k ≤ length bs). (h, rw (le-ltb (length bs) k h) at e, b))
-    (cases_lt (length bs) k)
+whole_headed k tells bs b e = (grind (arith, nat_tests), grind (arith, nat_tests), b)
 
 -- a head and what it tells are as many bytes as there should be
 pub headed_exactly : {X : Type 0} (t k : ℕ) (tells : List ℕ → ℕ) (bs : List ℕ) (x : X) → Headed k tells bs →
     exactly (t ∷ bs) (sized (t ∷ bs) (suc k) (tells bs)) x ≡ Ok x
-headed_exactly t k tells bs x h =
-    let l = le-ltb (suc (length bs)) (suc k) (omega (arith, h.0)) in
-    let e = eq-eqb (suc (length bs)) (suc k + tells bs) (omega (arith, h.1)) in
-    rw (l, e)
+headed_exactly t k tells bs x h = grind (arith, nat_tests)
 
 -- bytes behind a first one t, where such bytes are what the writings that begin with t have behind it: a value that has just so many, or the place where they cease to be a writing
 pub tagged_headed : {X : Type 0} (fits : X → Type 0) (bytes : X → List ℕ) (t k : ℕ) (tells : List ℕ → ℕ) → ByHead k tells → (value : List ℕ → X) →
@@ -173,11 +159,7 @@ nothing bs = 0
 
 -- a head that nothing follows has just its own bytes
 sized_alone : (bs : List ℕ) (k : ℕ) → sized bs k 0 ≡ k
-sized_alone bs k =
-    ⊎_elim
-    (λ (h : length bs < k). rw (lt-ltb (length bs) k h))
-    (λ (h : k ≤ length bs). rw (le-ltb (length bs) k h) (omega arith))
-    (cases_lt (length bs) k)
+sized_alone bs k = grind (arith, nat_tests)
 
 -- the same where nothing follows the head
 pub tagged_alone : {X : Type 0} (fits : X → Type 0) (bytes : X → List ℕ) (t k : ℕ) (value : List ℕ → X) →
@@ -192,11 +174,6 @@ tagged_alone fits bytes t k value whole out bs b =
 pub unknown_stops : (W : List ℕ → Type 0) (t : ℕ) (bs : List ℕ) → Begins W [] → ((cs : List ℕ) → W (t ∷ cs) → ⊥) → StopsAt W (t ∷ bs) 0
 unknown_stops W t bs some none = (none bs, some, inr (omega arith, λ g. none g.0 g.1))
 
--- a number above 4 is none of those up to 4
-pub above_four : (k : ℕ) → 4 < k → (eqb k 0 ≡ false) × (eqb k 1 ≡ false) × (eqb k 2 ≡ false) × (eqb k 3 ≡ false) × (eqb k 4 ≡ false)
-above_four k h =
-    (ne_eqb k 0 (λ e. omega arith), ne_eqb k 1 (λ e. omega arith), ne_eqb k 2 (λ e. omega arith), ne_eqb k 3 (λ e. omega arith), ne_eqb k 4 (λ e. omega arith))
-
 -- what is read of bytes of which there is a first
 pub read_first : {X : Type 0} (read : ℕ → List ℕ → Result X ℕ) (k : ℕ) (bs : List ℕ) → by_first read (k ∷ bs) ≡ read k (k ∷ bs)
-read_first read k bs = rw (ne_eqb (suc (length bs)) 0 (λ e. omega arith))
+read_first read k bs = grind (arith, nat_tests)
