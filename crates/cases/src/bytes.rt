@@ -203,7 +203,7 @@ fn check_cells(rt: &impl Abort, cells: &[u16], out: &mut [u8], size: usize) {
 }
 
 // The answer is written over bytes of which the sixth and seventh are 3, what is behind it stays, it is read back, and it is
-// refused where there is a byte too few.
+// refused where there is a byte too few. A refusal is the one that the list has under its number and place.
 fn check_answer(
     rt: &impl Abort,
     answer: Answer,
@@ -219,6 +219,10 @@ fn check_answer(
     assert_eq!(rt; out[11], 9);
     assert_eq!(rt; Answer::decode(&out[0..size]), Ok(answer));
     assert_eq!(rt; answer.encode(cells, &mut out[0..size - 1]), None);
+    if let Answer::Refused(refusal) = answer {
+        let listed = Refusal::listed(refusal.number(), refusal.place());
+        assert_eq!(rt; listed, Some(refusal));
+    }
     Ok(())
 }
 

@@ -1,6 +1,6 @@
 -- Numbers as bytes and back: two bytes, four bytes, and lists of two bytes each.
 use Rattle.std.proofs.Common.{◌≡◌, ℕ, zero, suc, ◌+◌, ◌*◌, ◌/◌, ◌%◌, ◌<◌, List, [], ◌∷◌, ◌++◌, length, get_or, take, refl, arith}
-use native.Mathlib.Nat.{div-div-eq-div-mul}
+use Rattle.std.proofs.lemmas.Nat.{from_le_bytes-to_le_bytes_4, le_bytes_4}
 use Rattle.std.specs.List.{AllByRecursion}
 use Rattle.std.specs.Simd.{first_chunks}
 use Rattle.encoding.specs.Bytes.{Bytes, two, four, twos, two_at, words}
@@ -22,27 +22,18 @@ two_of a b p q =
 
 -- a number that fits four bytes is what they hold
 pub four_value : (n : ℕ) → n < 4294967296 → n % 256 + n / 256 % 256 * 256 + n / 65536 % 256 * 65536 + n / 16777216 % 256 * 16777216 ≡ n
-four_value n h =
-    let b : n / 256 / 256 ≡ n / 65536 = div-div-eq-div-mul n 256 256 in
-    let c : n / 65536 / 256 ≡ n / 16777216 = div-div-eq-div-mul n 65536 256 in
-    let d : n / 16777216 < 256 = omega arith in
-    let x : n / 65536 ≡ n / 65536 % 256 + n / 16777216 * 256 = omega arith in
-    let y : n / 256 ≡ n / 256 % 256 + n / 65536 * 256 = omega arith in
-    let z : n ≡ n % 256 + n / 256 * 256 = omega arith in
-    let u : n / 16777216 % 256 ≡ n / 16777216 = omega arith in
-    omega arith
+four_value n h = from_le_bytes-to_le_bytes_4 n h
 
 -- four bytes are those of the number that they hold
 pub four_of : (a b c d : ℕ) → a < 256 → b < 256 → c < 256 → d < 256 → four (a + b * 256 + c * 65536 + d * 16777216) ≡ a ∷ b ∷ c ∷ d ∷ []
-four_of a b c d p q r s =
-    let e : a + b * 256 + c * 65536 + d * 16777216 ≡ a + (b + (c + d * 256) * 256) * 256 = omega arith in
-    let l = low_byte a (b + (c + d * 256) * 256) p in
-    let m = low_byte b (c + d * 256) q in
-    let k = low_byte c d r in
-    let x = div-div-eq-div-mul (a + (b + (c + d * 256) * 256) * 256) 256 256 in
-    let y = div-div-eq-div-mul (a + (b + (c + d * 256) * 256) * 256) 65536 256 in
-    let u : d % 256 ≡ d = omega arith in
-    rw (e, ← y, ← x, l.0, l.1, m.0, m.1, k.0, k.1, u)
+four_of a b c d p q r s = le_bytes_4 (a ∷ b ∷ c ∷ d ∷ []) (a + b * 256 + c * 65536 + d * 16777216) refl byte refl
+  where
+    byte : (i : ℕ) → get_or (a ∷ b ∷ c ∷ d ∷ []) i 0 < 256
+    byte zero = p
+    byte (suc zero) = q
+    byte (suc (suc zero)) = r
+    byte (suc (suc (suc zero))) = s
+    byte (suc (suc (suc (suc i)))) = omega arith
 
 -- two bytes for each number
 pub length-twos : (ns : List ℕ) → length (twos ns) ≡ 2 * length ns
