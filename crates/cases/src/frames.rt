@@ -1,7 +1,6 @@
 // Signs and verdicts of frames that are worked by hand in docs/RULE.md, and cells that are no frame.
-use frame::check::{Misfit, check};
+use frame::check::{Frame, Misfit};
 use frame::sides::Sides;
-use frame::sign::{can_be_done, last_tiles, ordered_sign, sign};
 use std::test::Fail;
 
 const IN_ORDER: [u16; 16] = [1, 2, 3, 4, 5, 6, 7, 8, 9, 10, 11, 12, 13, 14, 15, 0];
@@ -19,16 +18,18 @@ const GAP_AS_TILE: [u16; 9] = [1, 2, 3, 4, 5, 6, 7, 0, 8];
 const ROW_LEFT_OUT: [u16; 16] = [1, 2, 3, 4, 5, 6, 7, 8, 9, 10, 11, 0, 13, 14, 15, 12];
 
 fn sides_of(wide: usize, tall: usize) -> Result<Sides, Fail> {
-    match Sides::new(wide, tall) {
-        Some(sides) => Ok(sides),
-        None => Err(Fail::new("no such sides")),
-    }
+    Sides::new(wide, tall).ok_or_else(|| Fail::new("no such sides"))
 }
 
 // The sign of a frame, and whether it can be done.
 fn told(wide: usize, tall: usize, cells: &[u16]) -> Result<(u16, bool), Fail> {
-    let sides = sides_of(wide, tall)?;
-    Ok((sign(sides, cells)?, can_be_done(sides, cells)?))
+    let frame = Frame::new(sides_of(wide, tall)?, cells)?;
+    Ok((frame.sign(), frame.can_be_done()))
+}
+
+// What keeps cells from being a frame.
+fn misfit(sides: Sides, cells: &[u16]) -> Option<Misfit> {
+    Frame::new(sides, cells).err()
 }
 
 #[test]
@@ -43,7 +44,7 @@ fn ordered_signs(rt: HostRuntime) -> Result<(), Fail> {
         (5, 3, 0),
         (15, 16, 0),
     ] {
-        assert_eq!(rt; ordered_sign(sides_of(wide, tall)?), expected);
+        assert_eq!(rt; sides_of(wide, tall)?.ordered_sign(), expected);
     }
     assert_eq!(rt; told(2, 2, &[1, 2, 3, 0])?, (1, true));
     assert_eq!(rt; told(2, 3, &[1, 2, 3, 4, 5, 0])?, (0, true));
@@ -61,21 +62,19 @@ fn worked_by_hand(rt: HostRuntime) -> Result<(), Fail> {
     assert_eq!(rt; told(4, 4, &ROW_LEFT_OUT)?, (1, true));
     assert_eq!(rt; told(3, 3, &[1, 2, 3, 4, 5, 6, 0, 7, 8])?, (0, true));
     assert_eq!(rt; told(3, 3, &[1, 2, 3, 4, 5, 6, 8, 7, 0])?, (1, false));
-    assert_eq!(rt; last_tiles(sides_of(4, 4)?), (14, 15));
+    assert_eq!(rt; sides_of(4, 4)?.last_tiles(), (14, 15));
     Ok(())
 }
 
 #[test]
 fn no_frames(rt: HostRuntime) -> Result<(), Fail> {
     let sides = sides_of(2, 2)?;
-    assert_eq!(rt; check(sides, &[1, 2, 3]), Err(Misfit::Count));
-    assert_eq!(rt; check(sides, &[1, 2, 3, 4]), Err(Misfit::TooLarge(3)));
-    assert_eq!(rt; check(sides, &[1, 2, 3, 2]), Err(Misfit::Twice(3, 1)));
-    assert_eq!(rt; check(sides, &[3, 2, 1, 0]), Ok(()));
-    assert_eq!(rt; sign(sides, &[0, 0, 4, 1]), Err(Misfit::Twice(1, 0)));
-    assert_eq!(rt;
-        Sides::new(1, 2).is_some() || Sides::new(2, 17).is_some(),
-        false
-    );
+    assert_eq!(rt; misfit(sides, &[1, 2, 3]), Some(Misfit::Count));
+    assert_eq!(rt; misfit(sides, &[1, 2, 3, 4]), Some(Misfit::TooLarge(3)));
+    assert_eq!(rt; misfit(sides, &[1, 2, 3, 2]), Some(Misfit::Twice(3, 1)));
+    assert_eq!(rt; misfit(sides, &[3, 2, 1, 0]), None);
+    assert_eq!(rt; misfit(sides, &[0, 0, 4, 1]), Some(Misfit::Twice(1, 0)));
+    assert_eq!(rt; Sides::new(1, 2), None);
+    assert_eq!(rt; Sides::new(2, 17), None);
     Ok(())
 }

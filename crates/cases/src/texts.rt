@@ -1,35 +1,24 @@
 // What is read of short texts and drawn, and each way to be wrong.
-use std::alloc::{AllocError, Global};
+use std::alloc::Global;
 use std::test::Fail;
 use text::draw::Drawing;
 use text::fault::Fault;
 use text::flaw::Flaw;
-use text::read::read;
-use text::verdict::judge;
+use text::read::Rows;
 
 // What is wrong with a text that is no rows.
 fn fault_of(heap: Global, text: &str) -> Result<Fault, Fail> {
-    match read(heap, text) {
-        Ok(_) => Err(Fail::new("these are rows")),
-        Err(fault) => Ok(fault),
-    }
+    Rows::read(heap, text)
+        .err()
+        .ok_or_else(|| Fail::new("these are rows"))
 }
 
 // What is wrong with rows that are no frame.
 fn flaw_of(heap: Global, text: &str) -> Result<Flaw, Fail> {
-    match judge(&read(heap, text)?) {
-        Ok(_) => Err(Fail::new("this is a frame")),
-        Err(flaw) => Ok(flaw),
-    }
-}
-
-// The text seventeen times.
-fn repeated(heap: Global, text: &str) -> Result<String, AllocError> {
-    let mut all = String::new(heap);
-    for _ in 0..17 {
-        all.push_str(text)?;
-    }
-    Ok(all)
+    Rows::read(heap, text)?
+        .judge()
+        .err()
+        .ok_or_else(|| Fail::new("this is a frame"))
 }
 
 #[test]
@@ -53,11 +42,11 @@ fn faults(rt: HostRuntime) -> Result<(), Fail> {
         assert_eq!(rt; fault_of(heap, text)?, expected);
     }
     assert_eq!(rt;
-        fault_of(heap, repeated(heap, "1 ")?.as_str())?,
+        fault_of(heap, "1 ".repeat(heap, 17)?.as_str())?,
         Fault::Columns { line: 1, count: 17 }
     );
     assert_eq!(rt;
-        fault_of(heap, repeated(heap, "0 1\n")?.as_str())?,
+        fault_of(heap, "0 1\n".repeat(heap, 17)?.as_str())?,
         Fault::TooMany { line: 17 }
     );
     Ok(())
@@ -93,7 +82,7 @@ fn flaws(rt: HostRuntime) -> Result<(), Fail> {
 #[test]
 fn drawings(rt: HostRuntime) -> Result<(), Fail> {
     let heap = rt.alloc();
-    let rows = read(heap, "#\n 1\t2 3 4\r\n\n5 +6 7 8\r\n9 10 11 0")?;
+    let rows = Rows::read(heap, "#\n 1\t2 3 4\r\n\n5 +6 7 8\r\n9 10 11 0")?;
     let drawing = Drawing {
         sides: rows.sides,
         cells: rows.cells.as_slice(),

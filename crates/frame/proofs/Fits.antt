@@ -1,5 +1,5 @@
 -- Cells that all fit are a proper frame, and cells with a misfit are none.
-use Rattle.std.proofs.Common.{◌≡◌, ℕ, ◌-◌, ◌*◌, ◌<◌, ◌≤◌, true, false, ◌≢◌, List, length, get_or, take, sym, ◌∙◌, arith}
+use Rattle.std.proofs.Common.{◌≡◌, ℕ, ◌*◌, ◌<◌, ◌≤◌, true, false, List, length, get_or, take, sym, ◌∙◌, arith}
 use Rattle.std.proofs.lemmas.List.{length-take-le, get_or-take}
 use Rattle.slide.specs.Tiles.{proper}
 use Rattle.slide.proofs.Pigeonhole.{once_from}
@@ -9,25 +9,13 @@ use Rattle.frame.specs.declared.check.Misfit.{Misfit}
 use Rattle.frame.specs.declared.check.Misfit.TheVariants.{Count, TooLarge, Twice}
 use Rattle.frame.specs.Cells.{framed, FitsAt, FirstMisfit, Misfits}
 
--- ---- the first k cells, as the part `&cells[0..k]`
+-- ---- the first k cells, as the part `&cells[..k]`
 module _ (cs : List ℕ) (k : ℕ) (h : k ≤ length cs) where
-  -- as long as it says
-  part : k - 0 ≡ k
-  part = omega arith
-
   -- a cell of the part is one of the whole, before k
-  in_front : (i v : ℕ) → i < length (take (k - 0) cs) → get_or (take (k - 0) cs) i 0 ≡ v → (i < k) × (get_or cs i 0 ≡ v)
+  in_front : (i v : ℕ) → i < length (take k cs) → get_or (take k cs) i 0 ≡ v → (i < k) × (get_or cs i 0 ≡ v)
   in_front i v l e =
-      let b : i < k = rw (part, length-take-le k cs h) at l in
-      (b, sym (get_or-take k cs i 0 b) ∙ rw part at e)
-
-  -- what the part does not hold, no cell before k holds
-  none_in_front : (v : ℕ) → ((i : ℕ) → i < length (take (k - 0) cs) → get_or (take (k - 0) cs) i 0 ≢ v) → (i : ℕ) → i < k → get_or cs i 0 ≢ v
-  none_in_front v n i l e = n i (rw (part, length-take-le k cs h) l) (rw part (get_or-take k cs i 0 l ∙ e))
-
-  -- so one cell more fits
-  pub fits_more : (n : ℕ) → get_or cs k 0 < n → ((i : ℕ) → i < length (take (k - 0) cs) → get_or (take (k - 0) cs) i 0 ≢ get_or cs k 0) → FitsAt n cs k
-  fits_more n l a = (l, none_in_front (get_or cs k 0) a)
+      let b : i < k = rw (length-take-le k cs h) at l in
+      (b, sym (get_or-take k cs i 0 b) ∙ e)
 
 -- ---- frames
 module _ (s : Sides) (cs : List ℕ) where
@@ -56,7 +44,7 @@ module _ (s : Sides) (cs : List ℕ) where
       pub too_large : n ≤ get_or cs k 0 → (proper (framed s cs) ≡ false) × Misfits s cs (TooLarge k)
       too_large o = let m : Misfits s cs (TooLarge k) = (first, omega arith) in (misfit_not_proper (TooLarge k) m, m)
 
-      pub twice : (i : ℕ) → i < length (take (k - 0) cs) → get_or (take (k - 0) cs) i 0 ≡ get_or cs k 0 → (proper (framed s cs) ≡ false) × Misfits s cs (Twice k i)
+      pub twice : (i : ℕ) → i < length (take k cs) → get_or (take k cs) i 0 ≡ get_or cs k 0 → (proper (framed s cs) ≡ false) × Misfits s cs (Twice k i)
       twice i b q =
           let f = in_front cs k (omega arith) i (get_or cs k 0) b q in
           let m : Misfits s cs (Twice k i) = (first, f.0, f.1) in

@@ -1,4 +1,5 @@
 -- What the code of frames rests on.
 pub mod Fits
+pub mod Missing
 pub mod Inversions
 pub mod Verdict

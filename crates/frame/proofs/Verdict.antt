@@ -1,18 +1,14 @@
 -- What the sign tells of cells: whether moves bring them in order, and that an exchange of the last two tiles helps where none do.
-use Rattle.std.proofs.Common.{◌≡◌, ℕ, ◌-◌, ◌*◌, ◌≤◌, true, List, length, get_or, sym, ap, ◌∙◌, mul-le-mul, arith}
+use Rattle.std.proofs.Common.{◌≡◌, ℕ, ◌-◌, ◌*◌, ◌≤◌, true, List, get_or, sym, ap, ◌∙◌, arith}
 use Rattle.slide.specs.Tiles.{Frame, sign, proper}
 use Rattle.slide.proofs.Proper.{is_proper}
 use Rattle.reach.proofs.Promises.{solvable_by_sign, unsolvable_by_sign, exchange_mends}
 use Rattle.frame.specs.declared.sides.Sides.{Sides}
-use Rattle.frame.specs.Cells.{framed, Tells, MendedBy}
-
--- a proper frame has at most 256 cells
-pub few_cells : (s : Sides) (cs : List ℕ) → proper (framed s cs) ≡ true → length cs ≤ 256
-few_cells s cs p = rw (is_proper (framed s cs) p).gapped.len (mul-le-mul s.range.1 s.range.3)
+use Rattle.frame.specs.Cells.{framed, SignedBy, MendedBy}
 
 -- what the sign of a proper frame tells
-pub sign_tells_it : (f : Frame) (s : ℕ) → proper f ≡ true → s ≡ sign f → Tells f s
-sign_tells_it f s p e = (λ h. solvable_by_sign f p (sym e ∙ h), λ n. unsolvable_by_sign f p (λ h. n (e ∙ h)))
+pub signed : (f : Frame) (s : ℕ) → proper f ≡ true → s ≡ sign f → SignedBy f s
+signed f s p e = (p, e, (λ h. solvable_by_sign f p (sym e ∙ h), λ n. unsolvable_by_sign f p (λ h. n (e ∙ h))))
 
 -- the last two tiles are no gap, and two
 pub last_mend : (s : Sides) (n : ℕ) → n ≡ s.wide * s.tall → 4 ≤ n → (cs : List ℕ) → MendedBy s cs (n - 2) (n - 1)

@@ -1,5 +1,5 @@
 -- Cells of given sides as a frame, what keeps cells from being one, and what its sign tells. Assumes nothing: these are definitions.
-use Rattle.std.specs.Prelude.{◌≡◌, ℕ, ◌*◌, ◌<◌, ◌≤◌, Bool, true, ◌≢◌, List, length, Some, None, MatchBool, Option, slice_index}
+use Rattle.std.specs.Prelude.{◌≡◌, ℕ, ◌*◌, ◌<◌, ◌≤◌, Bool, true, ◌≢◌, List, length, Some, None, Contains, MatchBool, Option, slice_index}
 use Rattle.slide.specs.Tiles.{Frame, sign, proper}
 use Rattle.slide.specs.Calls.{home, Solvable, Unsolvable}
 use Rattle.slide.specs.Promise.{exchanged}
@@ -25,14 +25,10 @@ Misfits s cs Count = length cs ≢ s.wide * s.tall
 Misfits s cs (TooLarge k) = FirstMisfit (s.wide * s.tall) cs k × (s.wide * s.tall ≤ slice_index cs k)
 Misfits s cs (Twice k i) = FirstMisfit (s.wide * s.tall) cs k × (i < k) × (slice_index cs i ≡ slice_index cs k)
 
--- the number v stands in some cell
-abbrev pub Stands : List ℕ → ℕ → Type 0
-Stands cs v = (k : ℕ) × (k < length cs) × (slice_index cs k ≡ v)
-
 -- the smallest number below n that stands in no cell, if there is one
 abbrev pub FirstMissing : ℕ → List ℕ → Option ℕ → Type 0
-FirstMissing n cs None = (v : ℕ) → v < n → Stands cs v
-FirstMissing n cs (Some m) = (m < n) × (Stands cs m → ⊥) × ((v : ℕ) → v < m → Stands cs v)
+FirstMissing n cs None = (v : ℕ) → v < n → Contains cs v
+FirstMissing n cs (Some m) = (m < n) × (Contains cs m → ⊥) × ((v : ℕ) → v < m → Contains cs v)
 
 -- what a sign tells of a frame: if it is that of the frame in order, some moves bring it in order, and else none do
 abbrev pub Tells : Frame → ℕ → Type 0

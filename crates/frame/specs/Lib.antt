@@ -1,2 +1,3 @@
--- Cells as frames.
+-- Sides in range, and cells as frames.
+pub mod Range
 pub mod Cells

@@ -1,23 +1,26 @@
 // How wide and how tall a frame is.
 ghost use Rattle.std.specs.Prelude.{◌≡◌, ◌*◌, ◌≤◌, MatchOption};
+ghost use Rattle.frame.specs.Range.{InRange};
 
 // The sides of a frame, each 2 to 16.
-#[derive(Clone, Copy)]
+#[derive(Clone, Copy, PartialEq, Eq, Debug)]
 pub struct Sides {
     pub wide: usize,
     pub tall: usize,
-    ghost range: { (2 ≤ wide) × (wide ≤ 16) × (2 ≤ tall) × (tall ≤ 16) },
+    ghost range: { InRange wide tall },
 }
 
 impl Sides {
     // The sides, or none where one is out of range.
     pub fn new(wide: usize, tall: usize) -> Option<Sides>
-        ensures { MatchOption result ((2 ≤ wide) × (wide ≤ 16) × (2 ≤ tall) × (tall ≤ 16) → ⊥) (λ s. (s.wide ≡ wide) × (s.tall ≡ tall)) }
+        ensures { MatchOption result (InRange wide tall → ⊥) (λ s. (s.wide ≡ wide) × (s.tall ≡ tall)) }
     {
-        if wide < 2 || 16 < wide || tall < 2 || 16 < tall {
-            return None;
+        let range = 2..=16;
+        if range.contains(&wide) && range.contains(&tall) {
+            Some(Sides { wide, tall })
+        } else {
+            None
         }
-        Some(Sides { wide, tall })
     }
 
     // How many cells a frame of these sides has.

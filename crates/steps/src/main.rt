@@ -1,44 +1,31 @@
 // Reads a frame, draws it, and says whether it can be put in order.
 #![tactic(auto)]
 
-use anyhow::anyhow;
-use std::alloc::Global;
+use anyhow::{Result, anyhow, ensure};
 use std::process::ExitCode;
 use std::{env, fs, io};
 use text::draw::Drawing;
-use text::read::read;
-use text::verdict::judge;
-
-// The text that was read, or a message that names where from.
-fn named(heap: Global, name: &str, text: io::Result<String>) -> anyhow::Result<String> {
-    match text {
-        Ok(text) => Ok(text),
-        Err(error) => Err(anyhow!(format!(in heap; "can't read {name}: {error}")?)),
-    }
-}
+use text::read::Rows;
 
 // The text of the file that is named as the one argument, or else of the standard input.
-fn input(rt: &HostRuntime) -> anyhow::Result<String> {
-    let heap = rt.alloc();
-    let mut args = env::args(rt)?;
-    let _ = args.next();
+fn input(rt: &HostRuntime) -> Result<String> {
+    let mut args = env::args(rt)?.skip(1);
     let Some(path) = args.next() else {
-        return named(
-            heap,
-            "the standard input",
-            io::read_to_string(heap, rt.stdin()),
-        );
+        return io::read_to_string(rt.alloc(), rt.stdin()).map_err(|error| anyhow!(
+            "can't read the standard input: {error}"
+        ));
     };
-    if args.next().is_some() {
-        return Err(anyhow!("more than one file; usage: steps [FILE]"));
-    }
-    named(heap, path.as_str(), fs::read_to_string(rt, path.as_str()))
+    ensure!(
+        args.next().is_none(),
+        "more than one file; usage: steps [FILE]"
+    );
+    fs::read_to_string(rt, path.as_str()).map_err(|error| anyhow!("can't read {path}: {error}"))
 }
 
-fn run(rt: &HostRuntime) -> anyhow::Result<()> {
+fn run(rt: &HostRuntime) -> Result<()> {
     let text = input(rt)?;
-    let rows = read(rt.alloc(), text.as_str())?;
-    let verdict = judge(&rows)?;
+    let rows = Rows::read(rt.alloc(), text.as_str())?;
+    let verdict = rows.judge()?;
     let drawing = Drawing {
         sides: rows.sides,
         cells: rows.cells.as_slice(),
@@ -47,7 +34,7 @@ fn run(rt: &HostRuntime) -> anyhow::Result<()> {
     Ok(())
 }
 
-fn main(rt: HostRuntime) -> anyhow::Result<ExitCode> {
+fn main(rt: HostRuntime) -> Result<ExitCode> {
     let Err(error) = run(&rt) else {
         return Ok(ExitCode::SUCCESS);
     };

@@ -1,5 +1,5 @@
 -- How a text is read as the rows of a frame, line by line, and where it is wrong. Assumes nothing: these are definitions.
-use Rattle.std.specs.Prelude.{◌≡◌, ℕ, zero, suc, ◌<◌, ◌≤◌, max, ◌≢◌, ◌⊎◌, List, [], ◌∷◌, ◌++◌, length, slice_index}
+use Rattle.std.specs.Prelude.{◌≡◌, ℕ, zero, suc, ◌<◌, ◌≤◌, max, ◌≢◌, ◌⊎◌, List, [], ◌∷◌, ◌++◌, length, Some, None, Option, slice_index}
 use Rattle.std.specs.Str.Lines.{IsFirstLine}
 use Rattle.std.specs.Str.Parse.{IsNumeral, digits_value, without_leading_plus}
 use Rattle.std.specs.Char.{is_whitespace, is_not_whitespace}
@@ -55,21 +55,21 @@ abbrev pub HoldsRow : List ℕ → List ℕ → Type 0
 HoldsRow l r = (IsComment l → ⊥) × Numbers l r × (0 < length r)
 
 -- ---- one row more
--- c numbers can be the next row after n rows of w numbers each
-abbrev pub GoesOn : ℕ → ℕ → ℕ → Type 0
-GoesOn w n c = ((n ≡ 0) × (2 ≤ c) × (c ≤ 16)) ⊎ ((0 < n) × (n < 16) × (c ≡ w))
+-- c numbers can be the next row after n rows of w numbers each; the first row has no w before it
+abbrev pub GoesOn : Option ℕ → ℕ → ℕ → Type 0
+GoesOn None n c = (2 ≤ c) × (c ≤ 16)
+GoesOn (Some w) n c = (n < 16) × (c ≡ w)
 
 -- the fault of line k with c numbers after n rows of w numbers each: too few or too many numbers, another count than the first row's, or a row too many
-abbrev pub RowFault : ℕ → ℕ → ℕ → ℕ → Fault → Type 0
-RowFault k w n c (Columns line count) = (line ≡ k) × (count ≡ c) × (n ≡ 0) × ((2 ≤ c) × (c ≤ 16) → ⊥)
-RowFault k w n c (Ragged line count wide) = (line ≡ k) × (count ≡ c) × (wide ≡ w) × (0 < n) × (c ≢ w)
-RowFault k w n c (TooMany line) = (line ≡ k) × (16 ≤ n) × (c ≡ w)
-RowFault k w n c Memory = ⊥
-RowFault k w n c (NotANumber line word) = ⊥
-RowFault k w n c (TooFew line rows) = ⊥
+abbrev pub RowFault : ℕ → Option ℕ → ℕ → ℕ → Fault → Type 0
+RowFault k None n c (Columns line count) = (line ≡ k) × (count ≡ c) × ((2 ≤ c) × (c ≤ 16) → ⊥)
+RowFault k None n c e = ⊥
+RowFault k (Some w) n c (Ragged line count wide) = (line ≡ k) × (count ≡ c) × (wide ≡ w) × (c ≢ w)
+RowFault k (Some w) n c (TooMany line) = (line ≡ k) × (16 ≤ n) × (c ≡ w)
+RowFault k (Some w) n c e = ⊥
 
 -- the fault of line k, which is l, after n rows of w numbers each
-abbrev pub LineFault : ℕ → List ℕ → ℕ → ℕ → Fault → Type 0
+abbrev pub LineFault : ℕ → List ℕ → Option ℕ → ℕ → Fault → Type 0
 LineFault k l w n e = ((IsComment l → ⊥) × WordFault k l e) ⊎ ((r : List ℕ) × HoldsRow l r × RowFault k w n (length r) e)
 
 -- ---- the whole text
@@ -84,13 +84,13 @@ pub data Holds : ℕ → List ℕ → List (List ℕ) → List ℕ → Type 0 wh
   passing : {k : ℕ} {bs l rest : List ℕ} {rs : List (List ℕ)} {ks : List ℕ} → FirstLine bs l rest → IsPassed l → Holds (suc k) rest rs ks → Holds k bs rs ks
   taking : {k : ℕ} {bs l rest r : List ℕ} {rs : List (List ℕ)} {ks : List ℕ} → FirstLine bs l rest → HoldsRow l r → Holds (suc k) rest rs ks → Holds k bs (r ∷ rs) (k ∷ ks)
 
--- from line k on, after n rows of w numbers each, bs has the fault e
-pub data Fails : ℕ → List ℕ → ℕ → ℕ → Fault → Type 0 where
-  too_short : {k : ℕ} {bs : List ℕ} {w n : ℕ} → length bs ≡ 0 → n < 2 → Fails (suc k) bs w n (TooFew (max k 1) n)
-  fails_here : {k : ℕ} {bs l rest : List ℕ} {w n : ℕ} {e : Fault} → FirstLine bs l rest → LineFault k l w n e → Fails k bs w n e
-  fails_after_passing : {k : ℕ} {bs l rest : List ℕ} {w n : ℕ} {e : Fault} → FirstLine bs l rest → IsPassed l → Fails (suc k) rest w n e → Fails k bs w n e
-  fails_after_row : {k : ℕ} {bs l rest : List ℕ} {w n : ℕ} {e : Fault} (r : List ℕ) → FirstLine bs l rest → HoldsRow l r → GoesOn w n (length r) →
-      Fails (suc k) rest (length r) (suc n) e → Fails k bs w n e
+-- from line k on, after n rows of w numbers each, bs has the fault e; w is none before the first row
+pub data Fails : ℕ → List ℕ → Option ℕ → ℕ → Fault → Type 0 where
+  too_short : {k : ℕ} {bs : List ℕ} {w : Option ℕ} {n : ℕ} → length bs ≡ 0 → n < 2 → Fails (suc k) bs w n (TooFew (max k 1) n)
+  fails_here : {k : ℕ} {bs l rest : List ℕ} {w : Option ℕ} {n : ℕ} {e : Fault} → FirstLine bs l rest → LineFault k l w n e → Fails k bs w n e
+  fails_after_passing : {k : ℕ} {bs l rest : List ℕ} {w : Option ℕ} {n : ℕ} {e : Fault} → FirstLine bs l rest → IsPassed l → Fails (suc k) rest w n e → Fails k bs w n e
+  fails_after_row : {k : ℕ} {bs l rest : List ℕ} {w : Option ℕ} {n : ℕ} {e : Fault} (r : List ℕ) → FirstLine bs l rest → HoldsRow l r → GoesOn w n (length r) →
+      Fails (suc k) rest (Some (length r)) (suc n) e → Fails k bs w n e
 
 -- the text holds the cells as rows of the sides, and these stand in the lines ls
 pub record Written (bs : List ℕ) (s : Sides) (cs ls : List ℕ) : Type 0 where

@@ -5,7 +5,7 @@ ghost use Rattle.slide.specs.Tiles.{pick};
 use frame::sides::Sides;
 use std::fmt;
 
-// Cells to be drawn: a row a line, with columns that line up.
+// Cells to be drawn, whether they are a frame or not: a row a line, with columns that line up.
 #[derive(Clone, Copy)]
 pub struct Drawing<'a> {
     pub sides: Sides,

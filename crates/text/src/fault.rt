@@ -49,6 +49,7 @@ impl<T: Drop> From<AllocFailed<T>> for Fault {
 
 impl Error for Fault {}
 
+// By hand, since a derived `Display` promises no words.
 impl fmt::Display for Fault {
     ghost output = { λ e. Some (fault_text e) };
 

@@ -1,11 +1,12 @@
 // What keeps rows that were read from being a frame, and in which line.
-ghost use Rattle.std.specs.Prelude.{◌≡◌, ℕ, ◌*◌, Some, Option, slice_index_or};
-ghost use Rattle.frame.specs.Cells.{FirstMissing};
-ghost use Rattle.text.specs.Flaws.{flaw, line_of, number_in};
+ghost use Rattle.std.specs.Prelude.{◌≡◌, ℕ, ◌*◌, true, Some, Option, MatchResult};
+ghost use Rattle.slide.specs.Tiles.{proper};
+ghost use Rattle.frame.specs.Cells.{framed, FirstMissing};
+ghost use Rattle.text.specs.Flaws.{flaw, line_of, number_in, Flawed};
 ghost use Rattle.text.specs.Says.{flaw_text, missing_text};
 
 use super::read::Rows;
-use frame::check::{Misfit, missing};
+use frame::check::{Frame, Misfit};
 use std::error::Error;
 use std::fmt;
 
@@ -34,59 +35,60 @@ pub enum Flaw {
     },
 }
 
-// What stands at a place, or the default past the end.
-fn item_or<T: Copy>(items: &[T], place: usize, default: T) -> T
-    ensures { result ≡ slice_index_or items.now place default }
-{
-    if place < items.len() {
-        items[place]
-    } else {
-        default
+impl Rows {
+    // The line of a cell.
+    fn line_of(&self, cell: usize) -> usize
+        ensures { result ≡ line_of self.now cell }
+    {
+        self.lines.get(cell / self.sides.wide).copied().unwrap_or(0)
     }
-}
 
-// The line of a cell.
-fn line_of(rows: &Rows, cell: usize) -> usize
-    ensures { result ≡ line_of rows.now cell }
-{
-    item_or(rows.lines.as_slice(), cell / rows.sides.wide, 0)
-}
+    // What a cell holds.
+    fn number_in(&self, cell: usize) -> u16
+        ensures { result ≡ number_in self.now cell }
+    {
+        self.cells.get(cell).copied().unwrap_or(0)
+    }
 
-// What a cell holds.
-fn number_in(rows: &Rows, cell: usize) -> u16
-    ensures { result ≡ number_in rows.now cell }
-{
-    item_or(rows.cells.as_slice(), cell, 0)
-}
+    // The misfit of rows that were read, told by lines.
+    pub fn flaw(&self, misfit: Misfit) -> Flaw
+        ensures { (m : Option ℕ) × FirstMissing (self.now.sides.wide * self.now.sides.tall) self.now.cells.items m × (result ≡ flaw self.now m misfit) }
+    {
+        let missing = self.sides.missing(self.cells.as_slice());
+        match misfit {
+            Misfit::Count => Flaw::Count {
+                count: self.cells.len(),
+                wide: self.sides.wide,
+                tall: self.sides.tall,
+            },
+            Misfit::TooLarge(cell) => Flaw::TooLarge {
+                line: self.line_of(cell),
+                number: self.number_in(cell),
+                largest: self.sides.count() - 1,
+                missing,
+            },
+            Misfit::Twice(cell, earlier) => Flaw::Twice {
+                line: self.line_of(cell),
+                number: self.number_in(cell),
+                earlier: self.line_of(earlier),
+                missing,
+            },
+        }
+    }
 
-// The misfit of rows that were read, told by lines.
-pub fn tell(rows: &Rows, misfit: Misfit) -> Flaw
-    ensures { (m : Option ℕ) × FirstMissing (rows.now.sides.wide * rows.now.sides.tall) rows.now.cells.items m × (result ≡ flaw rows.now m misfit) }
-{
-    let missing = missing(rows.sides, rows.cells.as_slice());
-    match misfit {
-        Misfit::Count => Flaw::Count {
-            count: rows.cells.len(),
-            wide: rows.sides.wide,
-            tall: rows.sides.tall,
-        },
-        Misfit::TooLarge(cell) => Flaw::TooLarge {
-            line: line_of(rows, cell),
-            number: number_in(rows, cell),
-            largest: rows.sides.count() - 1,
-            missing,
-        },
-        Misfit::Twice(cell, earlier) => Flaw::Twice {
-            line: line_of(rows, cell),
-            number: number_in(rows, cell),
-            earlier: line_of(rows, earlier),
-            missing,
-        },
+    // The frame that the rows are, or what keeps them from being one.
+    pub fn frame(&self) -> Result<Frame<'_>, Flaw>
+        ensures { MatchResult result
+            (λ f. (f ≡ framed self.now.sides self.now.cells.items) × (proper f ≡ true))
+            (Flawed self.now) }
+    {
+        Frame::new(self.sides, self.cells.as_slice()).map_err(|misfit| self.flaw(misfit))
     }
 }
 
 impl Error for Flaw {}
 
+// By hand, since a derived `Display` promises no words.
 impl fmt::Display for Flaw {
     ghost output = { λ e. Some (flaw_text e) };
 
@@ -128,17 +130,15 @@ impl fmt::Display for Flaw {
 #[derive(Clone, Copy)]
 struct Missing(Option<u16>);
 
+// By hand, since a derived `Display` promises no words.
 impl fmt::Display for Missing {
     ghost output = { λ m. Some (missing_text m.0) };
 
     fn fmt<W: fmt::Write>(&self, f: &mut fmt::Formatter<W>) -> fmt::Result {
-        let Some(number) = self.0 else {
-            return write!(f, "");
-        };
-        if number == 0 {
-            write!(f, "; there is no gap: 0 is missing")
-        } else {
-            write!(f, "; {number} is missing")
+        match self.0 {
+            None => Ok(()),
+            Some(0) => write!(f, "; there is no gap: 0 is missing"),
+            Some(number) => write!(f, "; {number} is missing"),
         }
     }
 }

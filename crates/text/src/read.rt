@@ -1,5 +1,6 @@
 // A frame's rows read from a text: a row a line, numbers separated by blanks.
-ghost use Rattle.std.specs.Prelude.{◌≡◌, ℕ, List, ◌++◌, length, Decides, MatchResult};
+ghost use Rattle.std.specs.Prelude.{◌≡◌, ℕ, List, ◌++◌, length, Some, None, Decides, MatchOption, MatchResult};
+ghost use Rattle.frame.specs.Range.{InRange};
 ghost use Rattle.text.specs.Rows.{Numbers, WordFault, IsComment, GoesOn, RowFault, LineFault, Fails, Written};
 ghost use Rattle.text.specs.Taken.{Taken};
 
@@ -13,58 +14,59 @@ fn read_row(line: usize, text: &str, cells: &mut Vec<u16>) -> Result<usize, Faul
         (λ count. (ns : List ℕ) × Numbers text.now ns × (count ≡ length ns) × (cells.new.items ≡ cells.old.items ++ ns))
         (WordFault line text.now) }
 {
-    let mut count = 0;
+    let before = cells.len();
     for word in text.split_whitespace() {
         let Ok(number) = word.parse::<u8>() else {
             return Err(Fault::NotANumber {
                 line,
-                word: count + 1,
+                word: cells.len() - before + 1,
             });
         };
         cells.push(u16::from(number))?;
-        count += 1;
     }
-    Ok(count)
+    Ok(cells.len() - before)
 }
 
 // Whether a line is a comment: it begins with `#`.
 fn is_comment(text: &str) -> bool
     ensures { Decides result (IsComment text.now) }
 {
-    match text.as_bytes().first() {
-        Some(byte) => *byte == b'#',
-        None => false,
-    }
+    text.starts_with('#')
 }
 
-// Whether a line of so many numbers can be the next row after so many rows of one width.
-fn check_row(line: usize, count: usize, wide: usize, rows: usize) -> Result<(), Fault>
-    ensures { MatchResult result (λ _. GoesOn wide rows count) (RowFault line wide rows count) }
-{
-    if rows == 0 {
-        if count < 2 || 16 < count {
-            return Err(Fault::Columns { line, count });
-        }
-        return Ok(());
-    }
-    if count != wide {
-        return Err(Fault::Ragged { line, count, wide });
-    }
-    if rows >= 16 {
-        return Err(Fault::TooMany { line });
-    }
-    Ok(())
-}
-
-// The rows read so far: their cells, the line of each, and how many numbers each has.
+// The rows read so far: their cells, the line of each, and how many numbers each has, from the first row on.
 #[derive(Drop)]
 struct Reading {
     cells: Vec<u16>,
     lines: Vec<usize>,
-    wide: usize,
+    wide: Option<usize>,
 }
 
 impl Reading {
+    // Whether a line of so many numbers can be the next row.
+    fn check_row(&self, line: usize, count: usize) -> Result<(), Fault>
+        ensures { MatchResult result
+            (λ _. GoesOn self.now.wide (length self.now.lines.items) count)
+            (RowFault line self.now.wide (length self.now.lines.items) count) }
+    {
+        match self.wide {
+            None if (2..=16).contains(&count) => Ok(()),
+            None => Err(Fault::Columns { line, count }),
+            Some(wide) if count != wide => Err(Fault::Ragged { line, count, wide }),
+            Some(_) if self.lines.len() >= 16 => Err(Fault::TooMany { line }),
+            Some(_) => Ok(()),
+        }
+    }
+
+    // The sides that the rows make, if each is in range.
+    fn sides(&self) -> Option<Sides>
+        ensures { MatchOption result
+            ((w : ℕ) → self.now.wide ≡ Some w → InRange w (length self.now.lines.items) → ⊥)
+            (λ s. (self.now.wide ≡ Some s.wide) × (s.tall ≡ length self.now.lines.items)) }
+    {
+        Sides::new(self.wide?, self.lines.len())
+    }
+
     // Reads the line of this number, which holds one row more or none.
     fn take_line(&mut self, line: usize, text: &str) -> Result<(), Fault>
         ensures { MatchResult result
@@ -78,14 +80,15 @@ impl Reading {
         if count == 0 {
             return Ok(());
         }
-        check_row(line, count, self.wide, self.lines.len())?;
-        self.wide = count;
+        self.check_row(line, count)?;
+        self.wide = Some(count);
         self.lines.push(line)?;
         Ok(())
     }
 }
 
-// A frame's rows as they were written: the sides that they make, their cells, and the line of each row, from 1.
+// A frame's rows as they were written: the sides that they make, their cells, and the line of each row, from 1. The cells of
+// all rows are one vector, since a frame lends them as one slice.
 #[derive(Drop)]
 pub struct Rows {
     pub sides: Sides,
@@ -93,33 +96,32 @@ pub struct Rows {
     pub lines: Vec<usize>,
 }
 
-// The rows that a text holds. Empty lines and lines that begin with `#` are passed over.
-pub fn read(heap: Global, text: &str) -> Result<Rows, Fault>
-    ensures { MatchResult result
-        (λ s. Written text.now s.sides s.cells.items s.lines.items)
-        (Fails 1 text.now 0 0) }
-{
-    let mut reading = Reading {
-        cells: Vec::new(heap),
-        lines: Vec::new(heap),
-        wide: 0,
-    };
-    let mut line = 0;
-    for row in text.lines() {
-        line += 1;
-        reading.take_line(line, row)?;
+impl Rows {
+    // The rows that a text holds. Empty lines and lines that begin with `#` are passed over.
+    pub fn read(heap: Global, text: &str) -> Result<Rows, Fault>
+        ensures { MatchResult result
+            (λ s. Written text.now s.sides s.cells.items s.lines.items)
+            (Fails 1 text.now None 0) }
+    {
+        let mut reading = Reading {
+            cells: Vec::new(heap),
+            lines: Vec::new(heap),
+            wide: None,
+        };
+        let mut last = 1;
+        for (index, row) in text.lines().enumerate() {
+            last = index + 1;
+            reading.take_line(last, row)?;
+        }
+        let sides = reading.sides().ok_or(Fault::TooFew {
+            line: last,
+            rows: reading.lines.len(),
+        })?;
+        let Reading { cells, lines, .. } = reading;
+        Ok(Rows {
+            sides,
+            cells,
+            lines,
+        })
     }
-    let Reading { cells, lines, wide } = reading;
-    let tall = lines.len();
-    let Some(sides) = Sides::new(wide, tall) else {
-        return Err(Fault::TooFew {
-            line: line.max(1),
-            rows: tall,
-        });
-    };
-    Ok(Rows {
-        sides,
-        cells,
-        lines,
-    })
 }

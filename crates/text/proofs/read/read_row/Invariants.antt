@@ -5,4 +5,4 @@ use Rattle.text.proofs.Lines.{WordsSeen}
 use Rattle.text.proofs.read.read_row.Given as goal
 
 abbrev pub invariant-loop-word : goal.invariant-loop-word
-invariant-loop-word l = WordsSeen l.text (split_whitespace_rest l.word-iterator) (vec_items l.initial.cells) (vec_items l.cells) l.count
+invariant-loop-word l = WordsSeen l.text (split_whitespace_rest l.word-iterator) (vec_items l.initial.cells) (vec_items l.cells)
