@@ -1,4 +1,4 @@
-// Calls and answers as bytes: tables of what they are read as and written as.
+//! Calls and answers as bytes: tables of what they are read as and written as.
 use codec::answer::Answer;
 use codec::call::Call;
 use codec::cells::cell;
@@ -8,7 +8,7 @@ use std::alloc::Global;
 use std::process::Abort;
 use std::test::Fail;
 
-// Lays: how many cells each has, the first and the last.
+/// Lays: how many cells each has, the first and the last.
 const LAYS: [(&[u8], usize, Option<u16>, Option<u16>); 4] = [
     (&[0, 0, 0], 0, None, None),
     (&[0, 4, 0, 1, 0, 2, 0, 3, 0, 0, 0], 4, Some(1), Some(0)),
@@ -16,7 +16,7 @@ const LAYS: [(&[u8], usize, Option<u16>, Option<u16>); 4] = [
     (&[0, 2, 0, 0, 1, 255, 255], 2, Some(256), Some(65535)),
 ];
 
-// The other calls.
+/// The other calls.
 const CALLS: [(&[u8], Call<'static>); 7] = [
     (&[1, 0], Call::Move(0)),
     (&[1, 3], Call::Move(3)),
@@ -27,7 +27,7 @@ const CALLS: [(&[u8], Call<'static>); 7] = [
     (&[4], Call::Shortest),
 ];
 
-// Each way for bytes to be no call, and the place: empty, an unknown number, too short, too long.
+/// Each way for bytes to be no call, and the place: empty, an unknown number, too short, too long.
 const NO_CALLS: [(&[u8], usize); 17] = [
     (&[], 0),
     (&[5], 0),
@@ -48,7 +48,7 @@ const NO_CALLS: [(&[u8], usize); 17] = [
     (&[4, 0], 1),
 ];
 
-// Each answer and each refusal, the cells beside it, and the bytes that it is written as.
+/// Each answer and each refusal, the cells beside it, and the bytes that it is written as.
 const ANSWERS: [(Answer, &[u16], &[u8]); 17] = [
     (
         Answer::Refused(Refusal::Unreadable(5)),
@@ -101,7 +101,7 @@ const ANSWERS: [(Answer, &[u16], &[u8]); 17] = [
     (Answer::Never, &[], &[4]),
 ];
 
-// Each way for bytes to be no answer, and the place: empty, an unknown number, too short, too long, and what no refusal has.
+/// Each way for bytes to be no answer, and the place: empty, an unknown number, too short, too long, and what no refusal has.
 const NO_ANSWERS: [(&[u8], usize); 22] = [
     (&[], 0),
     (&[5], 0),
@@ -127,7 +127,7 @@ const NO_ANSWERS: [(&[u8], usize); 22] = [
     (&[4, 0], 1),
 ];
 
-// A lay has so many cells, and these are the first and the last.
+/// A lay has so many cells, and these are the first and the last.
 fn check_lay(
     rt: &impl Abort,
     request: &[u8],
@@ -144,7 +144,7 @@ fn check_lay(
     Ok(())
 }
 
-// Each call, and each way to be none.
+/// Each call, and each way to be none.
 fn check_calls(rt: &impl Abort) -> Result<(), Fail> {
     for (request, count, first, last) in LAYS {
         check_lay(rt, request, count, first, last)?;
@@ -158,7 +158,7 @@ fn check_calls(rt: &impl Abort) -> Result<(), Fail> {
     Ok(())
 }
 
-// As many cells as can be counted, one byte more or less, and one cell more.
+/// As many cells as can be counted, one byte more or less, and one cell more.
 fn check_largest(rt: &impl Abort, heap: Global) -> Result<(), Fail> {
     let mut request = vec![in heap; 7; 131074]?;
     assert!(rt; request.len() == 131074);
@@ -195,15 +195,15 @@ fn check_largest(rt: &impl Abort, heap: Global) -> Result<(), Fail> {
     Ok(())
 }
 
-// Cells take so many bytes, and are read back.
+/// Cells take so many bytes, and are read back.
 fn check_cells(rt: &impl Abort, cells: &[u16], out: &mut [u8], size: usize) {
     assert_eq!(rt; Answer::Cells.encode(cells, out), Some(size));
     assert!(rt; size <= out.len());
     assert_eq!(rt; Answer::decode(&out[0..size]), Ok(Answer::Cells));
 }
 
-// The answer is written over bytes of which the sixth and seventh are 3, what is behind it stays, it is read back, and it is
-// refused where there is a byte too few. A refusal is the one that the list has under its number and place.
+/// The answer is written over bytes of which the sixth and seventh are 3, what is behind it stays, it is read back, and it is
+/// refused where there is a byte too few. A refusal is the one that the list has under its number and place.
 fn check_answer(
     rt: &impl Abort,
     answer: Answer,
@@ -226,7 +226,7 @@ fn check_answer(
     Ok(())
 }
 
-// Each answer, and each way to be none.
+/// Each answer, and each way to be none.
 fn check_answers(rt: &impl Abort) -> Result<(), Fail> {
     for (answer, cells, expected) in ANSWERS {
         check_answer(rt, answer, cells, expected)?;

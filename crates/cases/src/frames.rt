@@ -1,12 +1,12 @@
-// Signs and verdicts of frames that are worked by hand in docs/RULE.md, and cells that are no frame.
+//! Signs and verdicts of frames that are worked by hand in docs/RULE.md, and cells that are no frame.
 use frame::check::{Frame, Misfit};
 use frame::sides::Sides;
 use std::test::Fail;
 
 const IN_ORDER: [u16; 16] = [1, 2, 3, 4, 5, 6, 7, 8, 9, 10, 11, 12, 13, 14, 15, 0];
 
-// The frames of docs/RULE.md: one of four by four that can be done and the famous one that can't, one of five by three,
-// and the two that show what goes wrong where the gap is counted as a tile or its row is left out.
+/// The frames of docs/RULE.md: one of four by four that can be done and the famous one that can't, one of five by three,
+/// and the two that show what goes wrong where the gap is counted as a tile or its row is left out.
 const FOUR_BY_FOUR: [u16; 16] = [1, 2, 3, 4, 5, 6, 0, 8, 9, 10, 7, 11, 13, 14, 15, 12];
 
 const LAST_TWO_EXCHANGED: [u16; 16] = [1, 2, 3, 4, 5, 6, 7, 8, 9, 10, 11, 12, 13, 15, 14, 0];
@@ -21,13 +21,13 @@ fn sides_of(wide: usize, tall: usize) -> Result<Sides, Fail> {
     Sides::new(wide, tall).ok_or_else(|| Fail::new("no such sides"))
 }
 
-// The sign of a frame, and whether it can be done.
+/// The sign of a frame, and whether it can be done.
 fn told(wide: usize, tall: usize, cells: &[u16]) -> Result<(u16, bool), Fail> {
     let frame = Frame::new(sides_of(wide, tall)?, cells)?;
     Ok((frame.sign(), frame.can_be_done()))
 }
 
-// What keeps cells from being a frame.
+/// What keeps cells from being a frame.
 fn misfit(sides: Sides, cells: &[u16]) -> Option<Misfit> {
     Frame::new(sides, cells).err()
 }

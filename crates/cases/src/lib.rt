@@ -1,4 +1,4 @@
-// Frames and texts with their answers, run as tests. There is nothing here but tests.
+//! Frames and texts with their answers, run as tests. There is nothing here but tests.
 #![tactic(auto)]
 
 #[cfg(test)]

@@ -1,4 +1,4 @@
-// What is read of short texts and drawn, and each way to be wrong.
+//! What is read of short texts and drawn, and each way to be wrong.
 use std::alloc::Global;
 use std::test::Fail;
 use text::draw::Drawing;
@@ -6,14 +6,14 @@ use text::fault::Fault;
 use text::flaw::Flaw;
 use text::read::Rows;
 
-// What is wrong with a text that is no rows.
+/// What is wrong with a text that is no rows.
 fn fault_of(heap: Global, text: &str) -> Result<Fault, Fail> {
     Rows::read(heap, text)
         .err()
         .ok_or_else(|| Fail::new("these are rows"))
 }
 
-// What is wrong with rows that are no frame.
+/// What is wrong with rows that are no frame.
 fn flaw_of(heap: Global, text: &str) -> Result<Flaw, Fail> {
     Rows::read(heap, text)?
         .judge()
@@ -78,7 +78,7 @@ fn flaws(rt: HostRuntime) -> Result<(), Fail> {
     Ok(())
 }
 
-// Blanks, tabs, carriage returns, a sign and a comment are read over, and columns line up.
+/// Blanks, tabs, carriage returns, a sign and a comment are read over, and columns line up.
 #[test]
 fn drawings(rt: HostRuntime) -> Result<(), Fail> {
     let heap = rt.alloc();

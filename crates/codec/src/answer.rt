@@ -1,4 +1,4 @@
-// Answers, and how they are written as bytes and read from them.
+//! Answers, and how they are written as bytes and read from them.
 ghost use Rattle.std.specs.Prelude.{◌≡◌, ◌+◌, ◌*◌, ◌<◌, ◌≤◌, ◌++◌, length, drop, IfOk, MatchOption, MatchResult};
 ghost use Rattle.encoding.specs.Bytes.{twos, words};
 ghost use Rattle.encoding.specs.Formats.{StopsAt};
@@ -9,22 +9,22 @@ use super::misread::Misread;
 use super::refusal::Refusal;
 use super::size::{behind_first, exactly};
 
-// What the desk answers. It holds no reference, as the desk has no heap: cells lie beside it, and moves in lent bytes.
+/// What the desk answers. It holds no reference, as the desk has no heap: cells lie beside it, and moves in lent bytes.
 #[derive(Clone, Copy, PartialEq, Eq, Debug)]
 pub enum Answer {
-    // The call is turned away.
+    /// The call is turned away.
     Refused(Refusal),
-    // The sign, or the move that was made.
+    /// The sign, or the move that was made.
     Number(u16),
-    // The cells, which are beside it.
+    /// The cells, which are beside it.
     Cells,
-    // So many moves, which stand in the answer's bytes, from the sixth on.
+    /// So many moves, which stand in the answer's bytes, from the sixth on.
     Way(u32),
-    // No moves bring the frame in order.
+    /// No moves bring the frame in order.
     Never,
 }
 
-// Writes each cell in two bytes, low byte first.
+/// Writes each cell in two bytes, low byte first.
 #[tactic(auto, using(encoding::proofs::Numbers::twos_more, std::proofs::lemmas::Slice::overwrites), unfolding(encoding::specs::Bytes::twos))]
 fn write_cells(cells: &[u16], out: &mut [u8])
     requires { length out.old ≡ 2 * length cells.now }
@@ -37,7 +37,7 @@ fn write_cells(cells: &[u16], out: &mut [u8])
 }
 
 impl Answer {
-    // How many bytes the answer takes, with so many cells beside it.
+    /// How many bytes the answer takes, with so many cells beside it.
     fn size(self, cells: u16) -> usize
         ensures { result ≡ size self cells }
     {
@@ -50,7 +50,7 @@ impl Answer {
         }
     }
 
-    // Writes the answer, for which there is room. The moves of a way stand there already.
+    /// Writes the answer, for which there is room. The moves of a way stand there already.
     fn write(self, cells: &[u16], out: &mut [u8])
         requires { HasRoom self (length cells.now) (length out.old) }
         ensures bytes { out.new ≡ answer_bytes (told self cells.now out.old) ++ drop (size self (length cells.now)) out.old }
@@ -80,9 +80,9 @@ impl Answer {
         }
     }
 
-    // Writes the answer, with the cells beside it if it is these, and says how many bytes it takes; what is behind them stays.
-    // The moves of a way are those that stand there already, from the sixth byte on. None, and nothing is written, where there
-    // are too few bytes, or more cells than two bytes can count.
+    /// Writes the answer, with the cells beside it if it is these, and says how many bytes it takes; what is behind them stays.
+    /// The moves of a way are those that stand there already, from the sixth byte on. None, and nothing is written, where there
+    /// are too few bytes, or more cells than two bytes can count.
     pub fn encode(self, cells: &[u16], out: &mut [u8]) -> Option<usize>
         ensures { MatchOption result
             ((HasRoom self (length cells.now) (length out.old) → ⊥) × (out.new ≡ out.old))
@@ -97,7 +97,8 @@ impl Answer {
         Some(size)
     }
 
-    // The same of bytes of which the first is the number of the answer.
+    /// The same of bytes of which the first is the number of the answer.
+    // By that byte: an enum of the five numbers would list the answers twice.
     #[tactic(auto, using(encoding::proofs::Numbers::words_read, std::proofs::lemmas::Grind::common_steps))]
     fn decode_by(number: u8, bytes: &[u8]) -> Result<Self, Misread>
         ensures value { as_read (told_in bytes.now) result ≡ read_answer_by number bytes.now }
@@ -128,8 +129,9 @@ impl Answer {
         }
     }
 
-    // The answer that the bytes are, or the place of the first that does not fit. Cells stand from the fourth byte on, two bytes
-    // each, and the moves of a way from the sixth on.
+    /// The answer that the bytes are, or the place of the first that does not fit. Cells stand from the fourth byte on, two bytes
+    /// each, and the moves of a way from the sixth on.
+    // No `TryFrom`, and no trait with `Call`: see there.
     pub fn decode(bytes: &[u8]) -> Result<Self, Misread>
         ensures value { as_read (told_in bytes.now) result ≡ read_answer bytes.now }
         ensures whole { IfOk result (λ a. size a (length (words (drop 3 bytes.now))) ≡ length bytes.now) }

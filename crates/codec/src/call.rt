@@ -1,4 +1,4 @@
-// Calls, and how they are read from bytes.
+//! Calls, and how they are read from bytes.
 ghost use Rattle.std.specs.Prelude.{◌≡◌, ◌≤◌, IfOk, IfErr, MatchResult};
 ghost use Rattle.encoding.specs.Formats.{StopsAt};
 ghost use Rattle.encoding.specs.CallBytes.{CallFits, call_bytes, CallWriting, read_call_by, read_call};
@@ -7,23 +7,24 @@ ghost use Rattle.codec.specs.Meaning.{meant, PartOf, as_read};
 use super::misread::Misread;
 use super::size::{behind_first, exactly};
 
-// What is asked of the desk.
+/// What is asked of the desk.
 #[derive(Clone, Copy, PartialEq, Eq, Debug)]
 pub enum Call<'a> {
-    // These cells in place of those that are there. They stay where they are in the request: two bytes each, low byte first.
+    /// These cells in place of those that are there. They stay where they are in the request: two bytes each, low byte first.
     Lay(&'a [u8]),
-    // One move.
+    /// One move.
     Move(u8),
-    // The cells.
+    /// The cells.
     Show,
-    // Moves that bring the frame in order.
+    /// Moves that bring the frame in order.
     Solve,
-    // The fewest of them.
+    /// The fewest of them.
     Shortest,
 }
 
 impl<'a> Call<'a> {
-    // The same of bytes of which the first is the number of the call.
+    /// The same of bytes of which the first is the number of the call.
+    // By that byte: an enum of the five numbers would list the calls twice.
     fn decode_by(number: u8, request: &'a [u8]) -> Result<Self, Misread>
         ensures value { as_read meant result ≡ read_call_by number request.now }
         ensures part { IfOk result (PartOf request.now) }
@@ -56,7 +57,9 @@ impl<'a> Call<'a> {
         }
     }
 
-    // The call that the bytes are, or the place of the first that does not fit.
+    /// The call that the bytes are, or the place of the first that does not fit.
+    // No `TryFrom`: its callers would see one fact without a name in place of these. And no trait with `Answer`: these few lines
+    // are the same there, but what they ensure is not.
     pub fn decode(request: &'a [u8]) -> Result<Self, Misread>
         ensures value { as_read meant result ≡ read_call request.now }
         ensures part { IfOk result (PartOf request.now) }

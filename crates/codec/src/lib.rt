@@ -1,4 +1,4 @@
-// Calls and answers as bytes: calls and answers read, and answers written.
+//! Calls and answers as bytes: calls and answers read, and answers written.
 #![tactic(auto)]
 
 pub mod answer;

@@ -1,11 +1,11 @@
-// Bytes that are no call or no answer.
+//! Bytes that are no call or no answer.
 ghost use Rattle.std.specs.Prelude.{Some};
 ghost use Rattle.codec.specs.Says.{misread_text};
 
 use std::error::Error;
 use std::fmt;
 
-// The place of the first byte that does not fit, counted from 0.
+/// The place of the first byte that does not fit, counted from 0.
 #[derive(Clone, Copy, PartialEq, Eq, Debug)]
 pub struct Misread {
     pub place: usize,

@@ -1,27 +1,27 @@
-// Refusals: their numbers and places.
+//! Refusals: their numbers and places.
 ghost use Rattle.std.specs.Prelude.{◌≡◌, true, false, MatchOption};
 ghost use Rattle.encoding.specs.AnswerBytes.{refusal};
 ghost use Rattle.codec.specs.Meaning.{number_of, place_of};
 
-// Why a call is turned away.
+/// Why a call is turned away.
 #[derive(Clone, Copy, PartialEq, Eq, Debug)]
 pub enum Refusal {
-    // A call that can't be read: the place of the first byte that does not fit.
+    /// A call that can't be read: the place of the first byte that does not fit.
     Unreadable(u32),
-    // Cells that are no frame, or a move above 3.
+    /// Cells that are no frame, or a move above 3.
     Improper,
-    // At opening, a side out of range.
+    /// At opening, a side out of range.
     Side,
-    // At opening, less memory than is asked for.
+    /// At opening, less memory than is asked for.
     Memory,
-    // A move that can't be made.
+    /// A move that can't be made.
     Blocked,
-    // The fewest moves of a frame of more than 9 cells.
+    /// The fewest moves of a frame of more than 9 cells.
     TooManyCells,
 }
 
 impl Refusal {
-    // The number in the list of refusals.
+    /// The number in the list of refusals.
     pub fn number(self) -> u16
         ensures { result ≡ number_of self }
     {
@@ -34,7 +34,7 @@ impl Refusal {
         }
     }
 
-    // The place that is told with it.
+    /// The place that is told with it.
     pub fn place(self) -> u32
         ensures { result ≡ place_of self }
     {
@@ -45,7 +45,7 @@ impl Refusal {
         }
     }
 
-    // The refusal that has this number and place, if one of the list has.
+    /// The refusal that has this number and place, if one of the list has.
     pub fn listed(number: u16, place: u32) -> Option<Self>
         ensures { MatchOption result
             (refusal number place ≡ false)

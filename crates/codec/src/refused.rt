@@ -1,4 +1,4 @@
-// How refusals are read from bytes.
+//! How refusals are read from bytes.
 ghost use Rattle.std.specs.Prelude.{◌≡◌, ◌<◌, length, MatchOption, OnOk};
 ghost use Rattle.encoding.specs.AnswerBytes.{stands, misfit, read_refusal};
 ghost use Rattle.codec.specs.Meaning.{turned_away, as_read};
@@ -7,7 +7,8 @@ use super::misread::Misread;
 use super::refusal::Refusal;
 use super::size::exactly;
 
-// Whether this byte can stand at this place, 1 to 6, of a refusal of this number.
+/// Whether this byte can stand at this place, 1 to 6, of a refusal of this number.
+// By the byte of the number, which no refusal may have: an enum has no case for that.
 fn stands(number: u8, place: usize, byte: u8) -> bool
     ensures { result ≡ stands number place byte }
 {
@@ -21,7 +22,7 @@ fn stands(number: u8, place: usize, byte: u8) -> bool
     range.contains(&byte)
 }
 
-// The place of the first byte, behind the 0, that can't stand there in a refusal, if there is one.
+/// The place of the first byte, behind the 0, that can't stand there in a refusal, if there is one.
 fn first_misfit(bytes: &[u8]) -> Option<usize>
     ensures { MatchOption result
         (misfit bytes.now 1 6 ≡ 7)
@@ -31,7 +32,7 @@ fn first_misfit(bytes: &[u8]) -> Option<usize>
 }
 
 impl Refusal {
-    // The refusal that an answer's bytes are, of which the first is 0; or the place of the first that does not fit.
+    /// The refusal that an answer's bytes are, of which the first is 0; or the place of the first that does not fit.
     pub(super) fn decode(bytes: &[u8]) -> Result<Self, Misread>
         ensures value { as_read turned_away result ≡ read_refusal bytes.now }
         ensures whole { OnOk result (length bytes.now ≡ 7) }

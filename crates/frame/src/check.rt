@@ -1,4 +1,4 @@
-// Frames: cells that were checked; and if cells are no frame, why.
+//! Frames: cells that were checked; and if cells are no frame, why.
 ghost use Rattle.std.specs.Prelude.{◌≡◌, ℕ, ◌*◌, ◌<◌, true, false, ◌≢◌, length, MatchOption, MatchResult, slice_index};
 ghost use Rattle.slide.specs.Tiles.{proper};
 ghost use Rattle.frame.specs.Cells.{framed, Misfits, FirstMissing};
@@ -6,7 +6,7 @@ ghost use Rattle.frame.specs.Cells.{framed, Misfits, FirstMissing};
 use super::sides::Sides;
 use std::marker::Model;
 
-// A proper frame of these sides. Contracts see it as the frame that the theorems speak of.
+/// A proper frame of these sides. Contracts see it as the frame that the theorems speak of.
 #[derive(Drop)]
 pub struct Frame<'a> {
     pub(crate) sides: Sides,
@@ -26,19 +26,19 @@ impl<'a> Model for Frame<'a> {
     ghost invariant = { λ f. proper (framed f.sides f.cells.now) ≡ true };
 }
 
-// What keeps cells from being a frame. It prints nothing: programs tell it by the lines of a text.
+/// What keeps cells from being a frame. It prints nothing: programs tell it by the lines of a text.
 #[derive(Clone, Copy, PartialEq, Eq, Debug)]
 pub enum Misfit {
-    // There are not as many as the sides make.
+    /// There are not as many as the sides make.
     Count,
-    // This cell holds a number that is too large.
+    /// This cell holds a number that is too large.
     TooLarge(usize),
-    // This cell holds what that earlier one holds.
+    /// This cell holds what that earlier one holds.
     Twice(usize, usize),
 }
 
 impl<'a> Frame<'a> {
-    // The frame of these sides that the cells are, or the first misfit.
+    /// The frame of these sides that the cells are, or the first misfit.
     pub fn new(sides: Sides, cells: &'a [u16]) -> Result<Frame<'a>, Misfit>
         ensures { MatchResult result
             (λ f. (f ≡ framed sides cells.now) × (proper f ≡ true))
@@ -60,7 +60,7 @@ impl<'a> Frame<'a> {
     }
 }
 
-// The first cell that holds the number.
+/// The first cell that holds the number.
 pub fn find(cells: &[u16], number: u16) -> Option<usize>
     ensures { MatchOption result
         ((k : ℕ) → k < length cells.now → slice_index cells.now k ≢ number)
@@ -70,7 +70,7 @@ pub fn find(cells: &[u16], number: u16) -> Option<usize>
 }
 
 impl Sides {
-    // The smallest number of a frame of these sides that no cell holds.
+    /// The smallest number of a frame of these sides that no cell holds.
     pub fn missing(self, cells: &[u16]) -> Option<u16>
         ensures { FirstMissing (self.wide * self.tall) cells.now result }
     {

@@ -1,4 +1,4 @@
-// Frames: whether cells are a frame of their sides, its sign, and whether it can be put in order.
+//! Frames: whether cells are a frame of their sides, its sign, and whether it can be put in order.
 #![tactic(auto)]
 
 pub mod check;

@@ -1,8 +1,8 @@
-// How wide and how tall a frame is.
+//! How wide and how tall a frame is.
 ghost use Rattle.std.specs.Prelude.{◌≡◌, ◌*◌, ◌≤◌, MatchOption};
 ghost use Rattle.frame.specs.Range.{InRange};
 
-// The sides of a frame, each 2 to 16.
+/// The sides of a frame, each 2 to 16.
 #[derive(Clone, Copy, PartialEq, Eq, Debug)]
 pub struct Sides {
     pub wide: usize,
@@ -11,7 +11,7 @@ pub struct Sides {
 }
 
 impl Sides {
-    // The sides, or none where one is out of range.
+    /// The sides, or none where one is out of range.
     pub fn new(wide: usize, tall: usize) -> Option<Sides>
         ensures { MatchOption result (InRange wide tall → ⊥) (λ s. (s.wide ≡ wide) × (s.tall ≡ tall)) }
     {
@@ -23,7 +23,7 @@ impl Sides {
         }
     }
 
-    // How many cells a frame of these sides has.
+    /// How many cells a frame of these sides has.
     pub fn count(self) -> usize
         ensures value { result ≡ self.wide * self.tall }
         ensures range { (4 ≤ result) × (result ≤ 256) }

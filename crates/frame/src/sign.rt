@@ -1,4 +1,4 @@
-// The sign of a frame, and what it tells: whether the frame can be put in order.
+//! The sign of a frame, and what it tells: whether the frame can be put in order.
 ghost use Rattle.std.specs.Prelude.{◌≡◌, ℕ, ◌+◌, ◌*◌, ◌/◌, ◌%◌, ◌≤◌, ◌&&◌, List, ◌==◌, nat_lt, count_by};
 ghost use Rattle.slide.specs.Tiles.{pick, gap, larger_than, wrong_pairs, sign, ordered};
 ghost use Rattle.frame.specs.Cells.{SignedBy, DecidedBy, MendedBy};
@@ -6,14 +6,14 @@ ghost use Rattle.frame.specs.Cells.{SignedBy, DecidedBy, MendedBy};
 use super::check::{Frame, find};
 use super::sides::Sides;
 
-// Whether two cells, the earlier first, hold tiles that stand the wrong way round: the later one is smaller. The gap is no tile.
+/// Whether two cells, the earlier first, hold tiles that stand the wrong way round: the later one is smaller. The gap is no tile.
 fn is_inversion(earlier: u16, later: u16) -> bool
     ensures { result ≡ (nat_lt 0 later && nat_lt later earlier) }
 {
     0 < later && later < earlier
 }
 
-// How many of the later cells hold a tile that is smaller than the earlier one.
+/// How many of the later cells hold a tile that is smaller than the earlier one.
 fn inversions_with(earlier: u16, later: &[u16]) -> usize
     ensures { result ≡ count_by (λ tile. nat_lt 0 tile && nat_lt tile earlier) later.now }
 {
@@ -24,7 +24,7 @@ fn inversions_with(earlier: u16, later: &[u16]) -> usize
 }
 
 impl Frame<'_> {
-    // How many pairs of tiles stand the wrong way round: the one that comes first is the larger.
+    /// How many pairs of tiles stand the wrong way round: the one that comes first is the larger.
     fn inversions(&self) -> usize
         ensures value { result ≡ wrong_pairs self.now.cells }
         ensures few { result ≤ 256 * 256 }
@@ -38,7 +38,7 @@ impl Frame<'_> {
         pairs
     }
 
-    // The cell of the gap.
+    /// The cell of the gap.
     fn gap(&self) -> usize
         ensures value { result ≡ gap self.now }
         ensures few { result ≤ 256 }
@@ -46,15 +46,15 @@ impl Frame<'_> {
         find(self.cells, 0).unwrap()
     }
 
-    // The sign, which tells whether the frame can be put in order: the inversions and the row that counts, together even or odd,
-    // 0 or 1, a number as answers carry it.
+    /// The sign, which tells whether the frame can be put in order: the inversions and the row that counts, together even or odd,
+    /// 0 or 1, a number as answers carry it.
     pub fn sign(&self) -> u16
         ensures { SignedBy self.now result }
     {
         ((self.inversions() + self.sides.counted_row(self.gap())) % 2) as u16
     }
 
-    // Whether some moves, however many, bring the frame in order.
+    /// Whether some moves, however many, bring the frame in order.
     pub fn can_be_done(&self) -> bool
         ensures { DecidedBy self.now result }
     {
@@ -63,14 +63,14 @@ impl Frame<'_> {
 }
 
 impl Sides {
-    // Whether the gap's row counts in the sign: in frames of even width.
+    /// Whether the gap's row counts in the sign: in frames of even width.
     fn row_counts(self) -> bool
         ensures { result ≡ (self.wide % 2 == 0) }
     {
         self.wide.is_multiple_of(2)
     }
 
-    // The row of a cell from 0, where rows count, and else 0.
+    /// The row of a cell from 0, where rows count, and else 0.
     fn counted_row(self, cell: usize) -> usize
         ensures value { result ≡ pick (self.wide % 2 == 0) (cell / self.wide) 0 }
         ensures few { result ≤ cell }
@@ -82,7 +82,7 @@ impl Sides {
         }
     }
 
-    // The sign of the frame in order: that of its last row where the row counts, else 0.
+    /// The sign of the frame in order: that of its last row where the row counts, else 0.
     pub fn ordered_sign(self) -> u16
         ensures { result ≡ sign (ordered self.wide self.tall) }
     {
@@ -93,7 +93,7 @@ impl Sides {
         }
     }
 
-    // The two tiles with the largest numbers. Where a frame of these sides can't be put in order, it can once these two are exchanged.
+    /// The two tiles with the largest numbers. Where a frame of these sides can't be put in order, it can once these two are exchanged.
     pub fn last_tiles(self) -> (u16, u16)
         ensures tiles { (result.0 + 2 ≡ self.wide * self.tall) × (result.1 + 1 ≡ self.wide * self.tall) }
         ensures mends { (cs : List ℕ) → MendedBy self cs result.0 result.1 }

@@ -1,4 +1,4 @@
-// Reads a frame, draws it, and says whether it can be put in order.
+//! Reads a frame, draws it, and says whether it can be put in order.
 #![tactic(auto)]
 
 use anyhow::{Result, anyhow, ensure};
@@ -7,7 +7,7 @@ use std::{env, fs, io};
 use text::draw::Drawing;
 use text::read::Rows;
 
-// The text of the file that is named as the one argument, or else of the standard input.
+/// The text of the file that is named as the one argument, or else of the standard input.
 fn input(rt: &HostRuntime) -> Result<String> {
     let mut args = env::args(rt)?.skip(1);
     let Some(path) = args.next() else {

@@ -1,5 +1,5 @@
 -- What is said of a text or a frame, byte by byte. Assumes nothing: these are definitions.
-use Rattle.std.specs.Prelude.{ℕ, ◌-◌, ◌*◌, cond, List, [], ◌++◌, Some, None, codes, decimal, Option, ◌==◌}
+use Rattle.std.specs.Prelude.{ℕ, ◌-◌, ◌*◌, if◌then◌else◌, List, [], ◌++◌, Some, None, codes, decimal, Option, ◌==◌}
 use Rattle.slide.specs.Tiles.{sign, ordered}
 use Rattle.text.specs.declared.fault.Fault.{Fault}
 use Rattle.text.specs.declared.fault.Fault.TheVariants.{Memory, NotANumber, Ragged, Columns, TooFew, TooMany}
@@ -23,7 +23,7 @@ fault_text (TooMany line) = in_line line (codes ": a frame has 2 to 16 rows, and
 -- the number that is missing, as the end of a sentence
 abbrev pub missing_text : Option ℕ → List ℕ
 missing_text None = []
-missing_text (Some m) = cond (m == 0) (codes "; there is no gap: 0 is missing") (codes "; " ++ (decimal m ++ codes " is missing"))
+missing_text (Some m) = if m == 0 then codes "; there is no gap: 0 is missing" else (codes "; " ++ (decimal m ++ codes " is missing"))
 
 -- a flaw of rows
 abbrev pub flaw_text : Flaw → List ℕ
@@ -41,5 +41,5 @@ signs_text v end =
 -- the verdict: it can be done; or it can't, but with the two largest tiles exchanged it can
 abbrev pub verdict_text : Verdict → List ℕ
 verdict_text v =
-    cond v.can (codes "It can" ++ signs_text v (codes "."))
-    (codes "It can't" ++ signs_text v (codes ".\nBut exchange any two tiles, for instance " ++ (decimal (v.sides.wide * v.sides.tall - 2) ++ (codes " and " ++ (decimal (v.sides.wide * v.sides.tall - 1) ++ codes ", and it can be done.")))))
+    if v.can then (codes "It can" ++ signs_text v (codes "."))
+    else (codes "It can't" ++ signs_text v (codes ".\nBut exchange any two tiles, for instance " ++ (decimal (v.sides.wide * v.sides.tall - 2) ++ (codes " and " ++ (decimal (v.sides.wide * v.sides.tall - 1) ++ codes ", and it can be done.")))))

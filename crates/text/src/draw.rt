@@ -1,18 +1,18 @@
-// A frame drawn as its rows.
+//! A frame drawn as its rows.
 ghost use Rattle.std.specs.Prelude.{◌≡◌, nat_le};
 ghost use Rattle.slide.specs.Tiles.{pick};
 
 use frame::sides::Sides;
 use std::fmt;
 
-// Cells to be drawn, whether they are a frame or not: a row a line, with columns that line up.
+/// Cells to be drawn, whether they are a frame or not: a row a line, with columns that line up.
 #[derive(Clone, Copy)]
 pub struct Drawing<'a> {
     pub sides: Sides,
     pub cells: &'a [u16],
 }
 
-// How many digits the largest of so many numbers from 0 on has.
+/// How many digits the largest of so many numbers from 0 on has.
 fn digits(count: usize) -> usize
     ensures { result ≡ pick (nat_le count 10) 1 (pick (nat_le count 100) 2 3) }
 {
@@ -23,7 +23,7 @@ fn digits(count: usize) -> usize
     }
 }
 
-// One row, and the end of its line.
+/// One row, and the end of its line.
 fn draw_row<W: fmt::Write>(f: &mut fmt::Formatter<W>, row: &[u16], width: usize) -> fmt::Result {
     for (column, cell) in row.iter().enumerate() {
         if column > 0 {

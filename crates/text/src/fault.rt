@@ -1,4 +1,4 @@
-// What is wrong with a text that should hold a frame, and in which line. Lines and words are counted from 1.
+//! What is wrong with a text that should hold a frame, and in which line. Lines and words are counted from 1.
 ghost use Rattle.std.specs.Prelude.{◌≡◌, Some};
 ghost use Rattle.text.specs.declared.fault.Fault.TheVariants.{Memory};
 ghost use Rattle.text.specs.Says.{fault_text};
@@ -7,33 +7,33 @@ use std::alloc::AllocFailed;
 use std::error::Error;
 use std::fmt;
 
-// Why a text is no frame.
+/// Why a text is no frame. Each case but the first has its line, in itself: a want of memory is no fault of a line.
 #[derive(Clone, Copy, PartialEq, Eq, Debug)]
 pub enum Fault {
-    // There is no memory to hold it.
+    /// There is no memory to hold it.
     Memory,
-    // This word of this line is no number from 0 to 255.
+    /// This word of this line is no number from 0 to 255.
     NotANumber {
         line: usize,
         word: usize,
     },
-    // This line has so many numbers, and the first row that many.
+    /// This line has so many numbers, and the first row that many.
     Ragged {
         line: usize,
         count: usize,
         wide: usize,
     },
-    // The first row, in this line, has too few or too many numbers.
+    /// The first row, in this line, has too few or too many numbers.
     Columns {
         line: usize,
         count: usize,
     },
-    // The text ends after this line, with so many rows.
+    /// The text ends after this line, with so many rows.
     TooFew {
         line: usize,
         rows: usize,
     },
-    // This line holds a row more than a frame can have.
+    /// This line holds a row more than a frame can have.
     TooMany {
         line: usize,
     },

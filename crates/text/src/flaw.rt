@@ -1,4 +1,4 @@
-// What keeps rows that were read from being a frame, and in which line.
+//! What keeps rows that were read from being a frame, and in which line.
 ghost use Rattle.std.specs.Prelude.{◌≡◌, ℕ, ◌*◌, true, Some, Option, MatchResult};
 ghost use Rattle.slide.specs.Tiles.{proper};
 ghost use Rattle.frame.specs.Cells.{framed, FirstMissing};
@@ -10,23 +10,23 @@ use frame::check::{Frame, Misfit};
 use std::error::Error;
 use std::fmt;
 
-// A misfit of the cells, in the line where it stands, and the smallest number that is missing for it.
+/// A misfit of the cells, in the line where it stands, and the smallest number that is missing for it.
 #[derive(Clone, Copy, PartialEq, Eq, Debug)]
 pub enum Flaw {
-    // There are so many numbers, and not as many as these sides make.
+    /// There are so many numbers, and not as many as these sides make.
     Count {
         count: usize,
         wide: usize,
         tall: usize,
     },
-    // This line holds this number, and the frame's numbers end at the largest.
+    /// This line holds this number, and the frame's numbers end at the largest.
     TooLarge {
         line: usize,
         number: u16,
         largest: usize,
         missing: Option<u16>,
     },
-    // This line holds this number, which an earlier cell, in that line, holds too.
+    /// This line holds this number, which an earlier cell, in that line, holds too.
     Twice {
         line: usize,
         number: u16,
@@ -36,21 +36,21 @@ pub enum Flaw {
 }
 
 impl Rows {
-    // The line of a cell.
+    /// The line of a cell.
     fn line_of(&self, cell: usize) -> usize
         ensures { result ≡ line_of self.now cell }
     {
         self.lines.get(cell / self.sides.wide).copied().unwrap_or(0)
     }
 
-    // What a cell holds.
+    /// What a cell holds.
     fn number_in(&self, cell: usize) -> u16
         ensures { result ≡ number_in self.now cell }
     {
         self.cells.get(cell).copied().unwrap_or(0)
     }
 
-    // The misfit of rows that were read, told by lines.
+    /// The misfit of rows that were read, told by lines.
     pub fn flaw(&self, misfit: Misfit) -> Flaw
         ensures { (m : Option ℕ) × FirstMissing (self.now.sides.wide * self.now.sides.tall) self.now.cells.items m × (result ≡ flaw self.now m misfit) }
     {
@@ -76,7 +76,7 @@ impl Rows {
         }
     }
 
-    // The frame that the rows are, or what keeps them from being one.
+    /// The frame that the rows are, or what keeps them from being one.
     pub fn frame(&self) -> Result<Frame<'_>, Flaw>
         ensures { MatchResult result
             (λ f. (f ≡ framed self.now.sides self.now.cells.items) × (proper f ≡ true))
@@ -126,7 +126,7 @@ impl fmt::Display for Flaw {
     }
 }
 
-// The number that is missing, as the end of a sentence.
+/// The number that is missing, as the end of a sentence.
 #[derive(Clone, Copy)]
 struct Missing(Option<u16>);
 

@@ -1,4 +1,4 @@
-// Frames as people write them: rows of numbers, read and drawn.
+//! Frames as people write them: rows of numbers, read and drawn.
 #![tactic(auto)]
 
 pub mod draw;

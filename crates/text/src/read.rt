@@ -1,5 +1,5 @@
-// A frame's rows read from a text: a row a line, numbers separated by blanks.
-ghost use Rattle.std.specs.Prelude.{◌≡◌, ℕ, List, ◌++◌, length, Some, None, Decides, MatchOption, MatchResult};
+//! A frame's rows read from a text: a row a line, numbers separated by blanks.
+ghost use Rattle.std.specs.Prelude.{◌≡◌, ℕ, List, ◌++◌, length, Some, None, ◌↔◌, IsTrue, MatchOption, MatchResult};
 ghost use Rattle.frame.specs.Range.{InRange};
 ghost use Rattle.text.specs.Rows.{Numbers, WordFault, IsComment, GoesOn, RowFault, LineFault, Fails, Written};
 ghost use Rattle.text.specs.Taken.{Taken};
@@ -8,7 +8,7 @@ use super::fault::Fault;
 use frame::sides::Sides;
 use std::alloc::Global;
 
-// The numbers of a line behind the cells; how many they are.
+/// The numbers of a line behind the cells; how many they are.
 fn read_row(line: usize, text: &str, cells: &mut Vec<u16>) -> Result<usize, Fault>
     ensures { MatchResult result
         (λ count. (ns : List ℕ) × Numbers text.now ns × (count ≡ length ns) × (cells.new.items ≡ cells.old.items ++ ns))
@@ -27,14 +27,14 @@ fn read_row(line: usize, text: &str, cells: &mut Vec<u16>) -> Result<usize, Faul
     Ok(cells.len() - before)
 }
 
-// Whether a line is a comment: it begins with `#`.
+/// Whether a line is a comment: it begins with `#`.
 fn is_comment(text: &str) -> bool
-    ensures { Decides result (IsComment text.now) }
+    ensures { IsTrue result ↔ IsComment text.now }
 {
     text.starts_with('#')
 }
 
-// The rows read so far: their cells, the line of each, and how many numbers each has, from the first row on.
+/// The rows read so far: their cells, the line of each, and how many numbers each has, from the first row on.
 #[derive(Drop)]
 struct Reading {
     cells: Vec<u16>,
@@ -43,7 +43,7 @@ struct Reading {
 }
 
 impl Reading {
-    // Whether a line of so many numbers can be the next row.
+    /// Whether a line of so many numbers can be the next row.
     fn check_row(&self, line: usize, count: usize) -> Result<(), Fault>
         ensures { MatchResult result
             (λ _. GoesOn self.now.wide (length self.now.lines.items) count)
@@ -58,7 +58,7 @@ impl Reading {
         }
     }
 
-    // The sides that the rows make, if each is in range.
+    /// The sides that the rows make, if each is in range.
     fn sides(&self) -> Option<Sides>
         ensures { MatchOption result
             ((w : ℕ) → self.now.wide ≡ Some w → InRange w (length self.now.lines.items) → ⊥)
@@ -67,7 +67,7 @@ impl Reading {
         Sides::new(self.wide?, self.lines.len())
     }
 
-    // Reads the line of this number, which holds one row more or none.
+    /// Reads the line of this number, which holds one row more or none.
     fn take_line(&mut self, line: usize, text: &str) -> Result<(), Fault>
         ensures { MatchResult result
             (λ _. Taken line text.now self.old self.new)
@@ -87,8 +87,8 @@ impl Reading {
     }
 }
 
-// A frame's rows as they were written: the sides that they make, their cells, and the line of each row, from 1. The cells of
-// all rows are one vector, since a frame lends them as one slice.
+/// A frame's rows as they were written: the sides that they make, their cells, and the line of each row, from 1. The cells of
+/// all rows are one vector, since a frame lends them as one slice.
 #[derive(Drop)]
 pub struct Rows {
     pub sides: Sides,
@@ -97,7 +97,7 @@ pub struct Rows {
 }
 
 impl Rows {
-    // The rows that a text holds. Empty lines and lines that begin with `#` are passed over.
+    /// The rows that a text holds. Empty lines and lines that begin with `#` are passed over.
     pub fn read(heap: Global, text: &str) -> Result<Rows, Fault>
         ensures { MatchResult result
             (λ s. Written text.now s.sides s.cells.items s.lines.items)

@@ -1,4 +1,4 @@
-// Whether rows that were read can be put in order, and what is said of it.
+//! Whether rows that were read can be put in order, and what is said of it.
 ghost use Rattle.std.specs.Prelude.{Some, MatchResult};
 ghost use Rattle.text.specs.Flaws.{Flawed};
 ghost use Rattle.text.specs.Says.{verdict_text};
@@ -9,7 +9,7 @@ use super::read::Rows;
 use frame::sides::Sides;
 use std::fmt;
 
-// The sign of a frame of these sides, and whether some moves bring it in order.
+/// The sign of a frame of these sides, and whether some moves bring it in order.
 #[derive(Clone, Copy)]
 pub struct Verdict {
     pub sides: Sides,
@@ -18,7 +18,7 @@ pub struct Verdict {
 }
 
 impl Rows {
-    // The verdict on rows that were read, or what keeps them from being a frame.
+    /// The verdict on rows that were read, or what keeps them from being a frame.
     pub fn judge(&self) -> Result<Verdict, Flaw>
         ensures { MatchResult result (Judged self.now) (Flawed self.now) }
     {
