@@ -46,6 +46,7 @@ impl Refusal {
     }
 
     /// The refusal that has this number and place, if one of the list has.
+    // No `TryFrom` of the pair: there is one way to be none, so that an error would say no more.
     pub fn listed(number: u16, place: u32) -> Option<Self>
         ensures { MatchOption result
             (refusal number place ≡ false)

@@ -10,7 +10,7 @@ use frame::sides::Sides;
 use std::fmt;
 
 /// The sign of a frame of these sides, and whether some moves bring it in order.
-#[derive(Clone, Copy)]
+#[derive(Clone, Copy, PartialEq, Eq, Debug)]
 pub struct Verdict {
     pub sides: Sides,
     pub sign: u16,
