@@ -6,19 +6,19 @@ use text::fault::Fault;
 use text::flaw::Flaw;
 use text::read::Rows;
 
+/// The error, or that there is none.
+fn error_of<T: Drop, E>(answer: Result<T, E>, none: &'static str) -> Result<E, Fail> {
+    answer.err().ok_or_else(|| Fail::new(none))
+}
+
 /// What is wrong with a text that is no rows.
 fn fault_of(heap: Global, text: &str) -> Result<Fault, Fail> {
-    Rows::read(heap, text)
-        .err()
-        .ok_or_else(|| Fail::new("these are rows"))
+    error_of(Rows::read(heap, text), "these are rows")
 }
 
 /// What is wrong with rows that are no frame.
 fn flaw_of(heap: Global, text: &str) -> Result<Flaw, Fail> {
-    Rows::read(heap, text)?
-        .judge()
-        .err()
-        .ok_or_else(|| Fail::new("this is a frame"))
+    error_of(Rows::read(heap, text)?.judge(), "this is a frame")
 }
 
 #[test]

@@ -7,14 +7,16 @@ ghost use Rattle.codec.specs.Meaning.{told, told_in, size, HasRoom, Written, as_
 
 use super::misread::Misread;
 use super::refusal::Refusal;
-use super::size::{behind_first, exactly};
+use super::size::{behind_first, exactly, exactly_cells};
 
-/// What the desk answers. It holds no reference, as the desk has no heap: cells lie beside it, and moves in lent bytes.
+/// What the desk answers.
+// It holds no reference, since memory is lent and there is no heap: cells to be written lie beside it as numbers, cells that
+// were read lie in the bytes, and the moves of a way stand in the lent bytes already.
 #[derive(Clone, Copy, PartialEq, Eq, Debug)]
 pub enum Answer {
     /// The call is turned away.
     Refused(Refusal),
-    /// The sign, or the move that was made.
+    /// The sign, or the move that was made, as the number that it is in the bytes.
     Number(u16),
     /// The cells, which are beside it.
     Cells,
@@ -83,6 +85,7 @@ impl Answer {
     /// Writes the answer, with the cells beside it if it is these, and says how many bytes it takes; what is behind them stays.
     /// The moves of a way are those that stand there already, from the sixth byte on. None, and nothing is written, where there
     /// are too few bytes, or more cells than two bytes can count.
+    // The bytes are lent: it answers how many it wrote, since there is no heap for a vector of them.
     pub fn encode(self, cells: &[u16], out: &mut [u8]) -> Option<usize>
         ensures { MatchOption result
             ((HasRoom self (length cells.now) (length out.old) → ⊥) × (out.new ≡ out.old))
@@ -97,7 +100,7 @@ impl Answer {
         Some(size)
     }
 
-    /// The same of bytes of which the first is the number of the answer.
+    /// The answer that bytes are of which the first is this number, or the place of the first byte that does not fit.
     // By that byte: an enum of the five numbers would list the answers twice.
     #[tactic(auto, using(encoding::proofs::Numbers::words_read, std::proofs::lemmas::Grind::common_steps))]
     fn decode_by(number: u8, bytes: &[u8]) -> Result<Self, Misread>
@@ -112,8 +115,7 @@ impl Answer {
                 Ok(Answer::Number(number))
             }
             2 => {
-                let count = u16::from_le_bytes(behind_first(bytes)?);
-                exactly(bytes, 3 + 2 * usize::from(count))?;
+                exactly_cells(bytes)?;
                 Ok(Answer::Cells)
             }
             3 => {

@@ -5,14 +5,14 @@ ghost use Rattle.encoding.specs.CallBytes.{CallFits, call_bytes, CallWriting, re
 ghost use Rattle.codec.specs.Meaning.{meant, PartOf, as_read};
 
 use super::misread::Misread;
-use super::size::{behind_first, exactly};
+use super::size::{behind_first, exactly, exactly_cells};
 
 /// What is asked of the desk.
 #[derive(Clone, Copy, PartialEq, Eq, Debug)]
 pub enum Call<'a> {
     /// These cells in place of those that are there. They stay where they are in the request: two bytes each, low byte first.
     Lay(&'a [u8]),
-    /// One move.
+    /// One move, 0 to 3. Any byte is read: whether it is a move is said by another refusal.
     Move(u8),
     /// The cells.
     Show,
@@ -23,7 +23,7 @@ pub enum Call<'a> {
 }
 
 impl<'a> Call<'a> {
-    /// The same of bytes of which the first is the number of the call.
+    /// The call that bytes are of which the first is this number, or the place of the first byte that does not fit.
     // By that byte: an enum of the five numbers would list the calls twice.
     fn decode_by(number: u8, request: &'a [u8]) -> Result<Self, Misread>
         ensures value { as_read meant result ≡ read_call_by number request.now }
@@ -32,8 +32,7 @@ impl<'a> Call<'a> {
     {
         match number {
             0 => {
-                let count = u16::from_le_bytes(behind_first(request)?);
-                exactly(request, 3 + 2 * usize::from(count))?;
+                exactly_cells(request)?;
                 Ok(Call::Lay(&request[3..]))
             }
             1 => {

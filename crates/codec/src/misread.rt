@@ -13,6 +13,7 @@ pub struct Misread {
 
 impl Error for Misread {}
 
+// By hand, since a derived `Display` promises no words.
 impl fmt::Display for Misread {
     ghost output = { λ e. Some (misread_text e) };
 

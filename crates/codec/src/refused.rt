@@ -5,7 +5,7 @@ ghost use Rattle.codec.specs.Meaning.{turned_away, as_read};
 
 use super::misread::Misread;
 use super::refusal::Refusal;
-use super::size::exactly;
+use super::size::{behind_first, exactly};
 
 /// Whether this byte can stand at this place, 1 to 6, of a refusal of this number.
 // By the byte of the number, which no refusal may have: an enum has no case for that.
@@ -41,8 +41,8 @@ impl Refusal {
             return Err(Misread { place });
         }
         exactly(bytes, 7)?;
-        let number = u16::from_le_bytes([bytes[1], bytes[2]]);
-        let place = u32::from_le_bytes([bytes[3], bytes[4], bytes[5], bytes[6]]);
+        let number = u16::from_le_bytes(behind_first(bytes)?);
+        let place = u32::from_le_bytes(behind_first(&bytes[2..])?);
         // Bytes that can stand where they do are a refusal of the list.
         Ok(Refusal::listed(number, place).unwrap())
     }

@@ -1,5 +1,7 @@
 //! How many bytes there should be, and where those that there are end or go on.
-ghost use Rattle.std.specs.Prelude.{◌≡◌, ◌<◌, ◌≤◌, min, ◌≢◌, length, take, drop, MatchResult};
+ghost use Rattle.std.specs.Prelude.{◌≡◌, ◌+◌, ◌*◌, ◌<◌, ◌≤◌, min, ◌≢◌, length, take, drop, MatchResult};
+ghost use Rattle.encoding.specs.Bytes.{two_at};
+ghost use Rattle.encoding.specs.Formats.{sized};
 
 use super::misread::Misread;
 
@@ -26,4 +28,14 @@ pub fn behind_first<const N: usize>(bytes: &[u8]) -> Result<[u8; N], Misread>
     let end = Misread { place: bytes.len() };
     let (_, rest) = bytes.split_first().ok_or(end)?;
     rest.first_chunk().copied().ok_or(end)
+}
+
+/// Nothing where the bytes are a number, a count in two bytes, and so many cells; else the place where they end too early or go on.
+pub fn exactly_cells(bytes: &[u8]) -> Result<(), Misread>
+    ensures { MatchResult result
+        (λ _. length bytes.now ≡ 3 + 2 * two_at bytes.now 1)
+        (λ e. (length bytes.now ≢ sized bytes.now 3 (2 * two_at bytes.now 1)) × (e.place ≡ min (length bytes.now) (sized bytes.now 3 (2 * two_at bytes.now 1))) × (e.place ≤ 131073)) }
+{
+    let count = u16::from_le_bytes(behind_first(bytes)?);
+    exactly(bytes, 3 + 2 * usize::from(count))
 }

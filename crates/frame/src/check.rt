@@ -7,7 +7,8 @@ use super::sides::Sides;
 use std::marker::Model;
 
 /// A proper frame of these sides. Contracts see it as the frame that the theorems speak of.
-#[derive(Drop)]
+// No `Copy` and no `==`: a struct with a lifetime and a model can't have them yet.
+#[derive(Clone, Debug, Drop)]
 pub struct Frame<'a> {
     pub(crate) sides: Sides,
     pub(crate) cells: &'a [u16],
@@ -26,7 +27,8 @@ impl<'a> Model for Frame<'a> {
     ghost invariant = { λ f. proper (framed f.sides f.cells.now) ≡ true };
 }
 
-/// What keeps cells from being a frame. It prints nothing: programs tell it by the lines of a text.
+/// What keeps cells from being a frame.
+// No `Display`: programs tell a misfit by the lines of a text.
 #[derive(Clone, Copy, PartialEq, Eq, Debug)]
 pub enum Misfit {
     /// There are not as many as the sides make.
@@ -48,6 +50,7 @@ impl<'a> Frame<'a> {
         if cells.len() != count {
             return Err(Misfit::Count);
         }
+        // A misfit names its cell, so the cells are numbered.
         for (cell, number) in cells.iter().enumerate() {
             if usize::from(*number) >= count {
                 return Err(Misfit::TooLarge(cell));

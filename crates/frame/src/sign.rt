@@ -46,8 +46,9 @@ impl Frame<'_> {
         find(self.cells, 0).unwrap()
     }
 
-    /// The sign, which tells whether the frame can be put in order: the inversions and the row that counts, together even or odd,
-    /// 0 or 1, a number as answers carry it.
+    /// The sign, which tells whether the frame can be put in order: the inversions and the row that counts, together even (0)
+    /// or odd (1).
+    // A number and no enum: it is a sum modulo 2, and an answer has it as two bytes.
     pub fn sign(&self) -> u16
         ensures { SignedBy self.now result }
     {
@@ -82,15 +83,11 @@ impl Sides {
         }
     }
 
-    /// The sign of the frame in order: that of its last row where the row counts, else 0.
+    /// The sign of the frame in order, a number as `Frame::sign` is: there are no inversions, and the gap is in the last cell.
     pub fn ordered_sign(self) -> u16
         ensures { result ≡ sign (ordered self.wide self.tall) }
     {
-        if self.row_counts() {
-            ((self.tall - 1) % 2) as u16
-        } else {
-            0
-        }
+        (self.counted_row(self.count() - 1) % 2) as u16
     }
 
     /// The two tiles with the largest numbers. Where a frame of these sides can't be put in order, it can once these two are exchanged.

@@ -5,8 +5,9 @@ ghost use Rattle.slide.specs.Tiles.{pick};
 use frame::sides::Sides;
 use std::fmt;
 
-/// Cells to be drawn, whether they are a frame or not: a row a line, with columns that line up.
-#[derive(Clone, Copy)]
+/// Cells to be drawn: a row a line, with columns that line up.
+// No `Frame` in place of both: cells that are none can be drawn too.
+#[derive(Clone, Copy, PartialEq, Eq, Debug)]
 pub struct Drawing<'a> {
     pub sides: Sides,
     pub cells: &'a [u16],
@@ -34,6 +35,7 @@ fn draw_row<W: fmt::Write>(f: &mut fmt::Formatter<W>, row: &[u16], width: usize)
     writeln!(f)
 }
 
+// By hand, since a derived `Display` draws no rows.
 impl fmt::Display for Drawing<'_> {
     fn fmt<W: fmt::Write>(&self, f: &mut fmt::Formatter<W>) -> fmt::Result {
         let width = digits(self.sides.count());

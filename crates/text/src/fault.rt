@@ -7,7 +7,8 @@ use std::alloc::AllocFailed;
 use std::error::Error;
 use std::fmt;
 
-/// Why a text is no frame. Each case but the first has its line, in itself: a want of memory is no fault of a line.
+/// Why a text is no frame.
+// The line stands in each case that has one, since a want of memory has none.
 #[derive(Clone, Copy, PartialEq, Eq, Debug)]
 pub enum Fault {
     /// There is no memory to hold it.

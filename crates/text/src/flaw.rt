@@ -11,6 +11,7 @@ use std::error::Error;
 use std::fmt;
 
 /// A misfit of the cells, in the line where it stands, and the smallest number that is missing for it.
+// Each case has the numbers that it prints. What two of them share is no struct of its own, since the third has none of it.
 #[derive(Clone, Copy, PartialEq, Eq, Debug)]
 pub enum Flaw {
     /// There are so many numbers, and not as many as these sides make.
@@ -36,6 +37,8 @@ pub enum Flaw {
 }
 
 impl Rows {
+    // 0 stands for a line or a number that there is not: a misfit may be of other cells.
+
     /// The line of a cell.
     fn line_of(&self, cell: usize) -> usize
         ensures { result ≡ line_of self.now cell }
@@ -127,7 +130,7 @@ impl fmt::Display for Flaw {
 }
 
 /// The number that is missing, as the end of a sentence.
-#[derive(Clone, Copy)]
+#[derive(Clone, Copy, PartialEq, Eq, Debug)]
 struct Missing(Option<u16>);
 
 // By hand, since a derived `Display` promises no words.

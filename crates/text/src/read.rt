@@ -35,6 +35,7 @@ fn is_comment(text: &str) -> bool
 }
 
 /// The rows read so far: their cells, the line of each, and how many numbers each has, from the first row on.
+// Two vectors, as in `Rows`. Nothing compares or prints it.
 #[derive(Drop)]
 struct Reading {
     cells: Vec<u16>,
@@ -87,9 +88,9 @@ impl Reading {
     }
 }
 
-/// A frame's rows as they were written: the sides that they make, their cells, and the line of each row, from 1. The cells of
-/// all rows are one vector, since a frame lends them as one slice.
-#[derive(Drop)]
+/// A frame's rows as they were written: the sides that they make, their cells, and the line of each row, from 1.
+// Cells and lines are no parallel vectors: a frame lends all cells as one slice, and there is a line for each row.
+#[derive(PartialEq, Eq, Debug, Drop)]
 pub struct Rows {
     pub sides: Sides,
     pub cells: Vec<u16>,
@@ -108,6 +109,7 @@ impl Rows {
             lines: Vec::new(heap),
             wide: None,
         };
+        // The last line read, for a text that ends too early; to count the lines would be to read it twice.
         let mut last = 1;
         for (index, row) in text.lines().enumerate() {
             last = index + 1;

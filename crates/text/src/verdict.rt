@@ -10,6 +10,7 @@ use frame::sides::Sides;
 use std::fmt;
 
 /// The sign of a frame of these sides, and whether some moves bring it in order.
+// The sign is a number as `Frame::sign` is. `can` follows from sides and sign, and stands beside them as it was decided.
 #[derive(Clone, Copy, PartialEq, Eq, Debug)]
 pub struct Verdict {
     pub sides: Sides,

@@ -1,17 +1,14 @@
--- The sign of the frame in order, where the row counts and where it does not.
-use Rattle.std.proofs.Common.{◌≡◌, ◌-◌, ◌%◌, ◌∙◌, arith}
-use Rattle.slide.specs.Tiles.{sign, ordered}
-use Rattle.slide.proofs.Home.{home_sign}
+-- The last cell is in the last row.
+use Rattle.std.proofs.Common.{◌≡◌, ◌+◌, ◌-◌, ◌*◌, ◌/◌, sym, arith}
+use Rattle.std.proofs.lemmas.Nat.{div-mul-add}
+use Rattle.slide.proofs.Home.{home_sign, last_place}
 use Rattle.frame.proofs.sides.Sides.ordered_sign.Goals as goal
 
-pub returns-then-row_counts : goal.returns-then-row_counts
-returns-then-row_counts c =
-    let s = c.args.self in
-    let h : sign (ordered s.wide s.tall) ≡ (s.tall - 1) % 2 = home_sign s.wide s.tall s.range.0 s.range.2 ∙ rw (← c.if-row_counts.ensures) in
-    omega arith
-
-pub returns-else-row_counts : goal.returns-else-row_counts
-returns-else-row_counts c =
-    let s = c.args.self in
-    let h : sign (ordered s.wide s.tall) ≡ 0 = home_sign s.wide s.tall s.range.0 s.range.2 ∙ rw (← c.if-row_counts.ensures) in
-    omega arith
+pub returns : goal.returns
+returns c =
+    let w = c.args.self.wide in
+    let t = c.args.self.tall in
+    let r = c.args.self.range in
+    let last : c.count.result - 1 ≡ (t - 1) * w + (w - 1) = omega (arith, c.count.ensures.value, last_place w t (omega arith) (omega arith)) in
+    let row : (c.count.result - 1) / w ≡ t - 1 = rw last (div-mul-add (t - 1) w (w - 1) (omega arith)) in
+    rw (c.counted_row.ensures.value, row) (sym (home_sign w t r.0 r.2))

@@ -9,6 +9,3 @@ returns-in-Columns-clause-writes g c = λ p o. rw c.in-Columns.is (c.write-in-Co
 
 pub returns-in-TooFew-clause-writes : goal.returns-in-TooFew-clause-writes
 returns-in-TooFew-clause-writes g c = λ p o. rw c.in-TooFew.is (c.write-in-TooFew.ensures.writes p o)
-
-pub returns-in-TooMany-clause-writes : goal.returns-in-TooMany-clause-writes
-returns-in-TooMany-clause-writes g c = λ p o. rw c.in-TooMany.is (c.write-in-TooMany.ensures.writes p o)
