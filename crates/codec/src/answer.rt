@@ -16,7 +16,8 @@ use super::size::{behind_first, exactly, exactly_cells};
 pub enum Answer {
     /// The call is turned away.
     Refused(Refusal),
-    /// The sign, or the move that was made, as the number that it is in the bytes.
+    /// The sign, or the move that was made.
+    // A number and no enum: the bytes have one kind of answer for both.
     Number(u16),
     /// The cells, which are beside it.
     Cells,
@@ -141,9 +142,7 @@ impl Answer {
             (λ a. AnswerFits (told_in bytes.now a) × (answer_bytes (told_in bytes.now a) ≡ bytes.now))
             (λ e. StopsAt AnswerWriting bytes.now e.place) }
     {
-        let [number, ..] = bytes else {
-            return Err(Misread { place: 0 });
-        };
+        let number = bytes.first().ok_or(Misread { place: 0 })?;
         Answer::decode_by(*number, bytes)
     }
 }

@@ -57,7 +57,7 @@ impl<'a> Call<'a> {
     }
 
     /// The call that the bytes are, or the place of the first that does not fit.
-    // No `TryFrom`: its callers would see one fact without a name in place of these. And no trait with `Answer`: these few lines
+    // No `TryFrom`: its callers would see one fact without a name in place of these. And no trait with `Answer`: these two lines
     // are the same there, but what they ensure is not.
     pub fn decode(request: &'a [u8]) -> Result<Self, Misread>
         ensures value { as_read meant result ≡ read_call request.now }
@@ -67,9 +67,7 @@ impl<'a> Call<'a> {
             (λ c. CallFits (meant c) × (call_bytes (meant c) ≡ request.now))
             (λ e. StopsAt CallWriting request.now e.place) }
     {
-        let [number, ..] = request else {
-            return Err(Misread { place: 0 });
-        };
+        let number = request.first().ok_or(Misread { place: 0 })?;
         Call::decode_by(*number, request)
     }
 }

@@ -8,7 +8,7 @@ use super::refusal::Refusal;
 use super::size::{behind_first, exactly};
 
 /// Whether this byte can stand at this place, 1 to 6, of a refusal of this number.
-// By the byte of the number, which no refusal may have: an enum has no case for that.
+// By the byte of the number, which may be one that no refusal has: an enum has no case for that.
 fn stands(number: u8, place: usize, byte: u8) -> bool
     ensures { result ≡ stands number place byte }
 {

@@ -7,7 +7,7 @@ use super::sides::Sides;
 use std::marker::Model;
 
 /// A proper frame of these sides. Contracts see it as the frame that the theorems speak of.
-// No `Copy` and no `==`: a struct with a lifetime and a model can't have them yet.
+// No `Copy`: a struct with a lifetime and a model can't have it yet. No `==`: it can't be derived here, and nothing compares frames.
 #[derive(Clone, Debug, Drop)]
 pub struct Frame<'a> {
     pub(crate) sides: Sides,

@@ -6,7 +6,7 @@ use frame::sides::Sides;
 use std::fmt;
 
 /// Cells to be drawn: a row a line, with columns that line up.
-// No `Frame` in place of both: cells that are none can be drawn too.
+// No `Frame` in place of both, which would ask more of who draws: the rows of a text are drawn as they are.
 #[derive(Clone, Copy, PartialEq, Eq, Debug)]
 pub struct Drawing<'a> {
     pub sides: Sides,
@@ -26,11 +26,12 @@ fn digits(count: usize) -> usize
 
 /// One row, and the end of its line.
 fn draw_row<W: fmt::Write>(f: &mut fmt::Formatter<W>, row: &[u16], width: usize) -> fmt::Result {
-    for (column, cell) in row.iter().enumerate() {
-        if column > 0 {
-            write!(f, " ")?;
-        }
-        write!(f, "{cell:>width$}")?;
+    let [first, others @ ..] = row else {
+        return writeln!(f);
+    };
+    write!(f, "{first:>width$}")?;
+    for cell in others {
+        write!(f, " {cell:>width$}")?;
     }
     writeln!(f)
 }

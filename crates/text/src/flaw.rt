@@ -37,7 +37,8 @@ pub enum Flaw {
 }
 
 impl Rows {
-    // 0 stands for a line or a number that there is not: a misfit may be of other cells.
+    // 0 stands for a line or a number that there is not. A misfit may be of other cells, but none of these rows lacks either, so
+    // that an `Option` in each case of `Flaw` would be for nothing.
 
     /// The line of a cell.
     fn line_of(&self, cell: usize) -> usize

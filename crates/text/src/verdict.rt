@@ -10,7 +10,8 @@ use frame::sides::Sides;
 use std::fmt;
 
 /// The sign of a frame of these sides, and whether some moves bring it in order.
-// The sign is a number as `Frame::sign` is. `can` follows from sides and sign, and stands beside them as it was decided.
+// The sign is a number as `Frame::sign` is. `can` follows from sides and sign; it is a field, since `judge` promises of it what
+// moves do, and a method of `Verdict` would have no rows to promise that of.
 #[derive(Clone, Copy, PartialEq, Eq, Debug)]
 pub struct Verdict {
     pub sides: Sides,
