@@ -1,4 +1,4 @@
--- Inversions counted cell by cell, where the gap is found, and its row.
+-- Inversions counted cell by cell, and where the gap is found.
 use Rattle.std.proofs.Common.{◌≡◌, ℕ, ◌+◌, ◌<◌, ◌≤◌, Bool, true, false, cond, ◌&&◌, nat_lt, ◌≢◌, List, [], ◌∷◌, length, get_or, drop, Some, None, Option, IsSome, subst, sym, refl, arith, MatchOption}
 use Rattle.std.specs.List.{count_by}
 use Rattle.std.proofs.lemmas.List.Sums.{sum_by-cons, count_by-le-length}

@@ -6,7 +6,7 @@ ghost use Rattle.frame.specs.Cells.{framed, Misfits, FirstMissing};
 use super::sides::Sides;
 use std::marker::Model;
 
-/// A proper frame of these sides. Contracts see it as the frame that the theorems speak of.
+/// A proper frame: its sides, and its cells, which were checked. Contracts see it as the frame that the theorems speak of.
 // No `Copy`: a struct with a lifetime and a model can't have it yet. No `==`: it can't be derived here, and nothing compares frames.
 #[derive(Clone, Debug, Drop)]
 pub struct Frame<'a> {

@@ -43,19 +43,6 @@ pub record LinesSeen (text rest cs ls : List ℕ) (w : Option ℕ) (k : ℕ) : T
   pub tall : length ls ≤ 16
   pub few : k + length rest ≤ length text
 
--- none yet
-pub none_read : (text rest cs ls : List ℕ) → rest ≡ text → cs ≡ [] → ls ≡ [] → LinesSeen text rest cs ls None 0
-none_read text rest cs ls e ec el = record {
-  rows = [];
-  right = λ rs ks h. rw el (rw e at h);
-  wrong = λ f h. rw (el, e) at h;
-  cells = ec;
-  count = rw el;
-  wide = refl;
-  tall = rw el (omega arith);
-  few = rw e (omega arith);
-}
-
 module _ {text rest cs ls : List ℕ} {w : Option ℕ} {k : ℕ} (so_far : LinesSeen text rest cs ls w k) {l next : List ℕ} (first : FirstLine rest l next) where
   -- a line that is passed over
   pub line_passed : IsPassed l → LinesSeen text next cs ls w (k + 1)

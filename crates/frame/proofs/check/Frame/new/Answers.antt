@@ -20,8 +20,4 @@ invariant_of-result c =
     c.loop-cell.cell c.loop-cell-test.false c.loop-cell.invariant
 
 pub returns : goal.returns
-returns c = (
-  refl,
-  all_fit c.args.sides c.args.cells.now c.count-count.result c.count-count.ensures.value (omega arith)
-      c.loop-cell.cell c.loop-cell-test.false c.loop-cell.invariant,
-)
+returns c = (refl, invariant_of-result c)
