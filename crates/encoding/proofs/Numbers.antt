@@ -1,8 +1,9 @@
 -- Numbers as bytes and back: two bytes, four bytes, and lists of two bytes each.
-use Rattle.std.proofs.Common.{◌≡◌, ℕ, zero, suc, ◌+◌, ◌*◌, ◌/◌, ◌%◌, ◌<◌, List, [], ◌∷◌, ◌++◌, length, get_or, take, refl, arith}
+use Rattle.std.proofs.Common.{◌≡◌, ℕ, zero, suc, ◌+◌, ◌*◌, ◌/◌, ◌%◌, ◌<◌, List, [], ◌∷◌, ◌++◌, length, get_or, take, refl, ap, arith}
 use Rattle.std.proofs.lemmas.Nat.{from_le_bytes-to_le_bytes_4, le_bytes_4}
 use Rattle.std.specs.List.{AllByRecursion}
 use Rattle.std.specs.Simd.{first_chunks}
+use Rattle.std.proofs.lemmas.List.{take_more}
 use Rattle.encoding.specs.Bytes.{Bytes, two, four, twos, two_at, words}
 
 -- a number that fits two bytes is what they hold
@@ -41,6 +42,12 @@ unfolding twos
 length-twos [] = refl
 length-twos (n ∷ ns) = let h = length-twos ns in omega arith
 
+-- the numbers of two lists, one after the other
+pub twos-append : (ms ns : List ℕ) → twos (ms ++ ns) ≡ twos ms ++ twos ns
+unfolding twos
+twos-append [] ns = refl
+twos-append (m ∷ ms) ns = ap (λ bs. m % 256 ∷ m / 256 % 256 ∷ bs) (twos-append ms ns)
+
 -- what numbers are written as are bytes
 pub Bytes-twos : (ns : List ℕ) → Bytes (twos ns)
 unfolding twos
@@ -72,7 +79,18 @@ length-words [] = refl
 length-words (a ∷ []) = refl
 length-words (a ∷ b ∷ bs) = let h = length-words bs in omega arith
 
--- each is the number that its two bytes hold
+-- each is the number that its two bytes hold, by their places
+pub get_or-words : (bs : List ℕ) (i : ℕ) → 2 * i + 1 < length bs → get_or (words bs) i 0 ≡ two_at bs (2 * i)
+unfolding words
+get_or-words [] i h = absurd (omega arith)
+get_or-words (a ∷ []) i h = absurd (omega arith)
+get_or-words (a ∷ b ∷ bs) zero h = refl
+get_or-words (a ∷ b ∷ bs) (suc i) h =
+    let e : 2 * suc i ≡ suc (suc (2 * i)) = omega arith in
+    let f : suc (suc (2 * i)) + 1 ≡ suc (suc (2 * i + 1)) = omega arith in
+    rw (e, f) (get_or-words bs i (omega arith))
+
+-- and as the library takes two bytes at a time
 pub chunk-words : (bs : List ℕ) (n i : ℕ) (d : List ℕ) → n ≡ length bs / 2 → i < n → two_at (get_or (first_chunks 2 n bs) i d) 0 ≡ get_or (words bs) i 0
 unfolding words
 chunk-words [] n i d e h = absurd (omega arith)
@@ -87,6 +105,4 @@ pub ruleset words_read = (length-words, chunk-words)
 -- one number more: its two bytes behind those of i numbers
 pub twos_more : (ns : List ℕ) (i : ℕ) → i < length ns → twos (take (i + 1) ns) ≡ twos (take i ns) ++ two (get_or ns i 0)
 unfolding twos
-twos_more [] i h = absurd (omega arith)
-twos_more (n ∷ ns) zero h = refl
-twos_more (n ∷ ns) (suc i) h = let e : suc i + 1 ≡ suc (i + 1) = omega arith in rw (e, twos_more ns i (omega arith))
+twos_more ns i h = rw (take_more ns i 0 h) (twos-append (take i ns) (get_or ns i 0 ∷ []))

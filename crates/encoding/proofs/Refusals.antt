@@ -79,7 +79,7 @@ refused_refusing k p f =
 refusal_of : (a c d e f : ℕ) → 1 ≤ a → a ≤ 5 → c ≤ most a 3 → d ≤ most a 4 → e ≤ most a 5 → f ≤ most a 6 → refusal a (c + d * 256 + e * 65536 + f * 16777216) ≡ true
 refusal_of a c d e f l h p q r s = grind (arith, nat_tests)
 
--- in the list's terms: such bytes hold a number of one byte, and it has that place
+-- in the list's terms: such bytes hold the number of a refusal, and it has that place
 pub stand_refusal : (bs : List ℕ) → ((i : ℕ) → 1 ≤ i → i < 7 → Stands (get_or bs 1 0) i (get_or bs i 0)) → refusal (two_at bs 1) (four_at bs 3) ≡ true
 stand_refusal bs at =
     let s1 = at 1 (lit≤ tt) (lit< tt) in

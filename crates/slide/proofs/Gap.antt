@@ -25,6 +25,15 @@ gap_is cs p l e u = u (gap_in cs) (omega (arith, gap_le cs p l e)) (gap_zero cs)
 pub gap_first : (cs : List ℕ) (p : ℕ) → p < length cs → get_or cs p 0 ≡ 0 → ((q : ℕ) → q < p → get_or cs q 0 ≢ 0) → gap_in cs ≡ p
 gap_first cs p l e n = grind (arith, gap_zero cs, gap_le cs p l e, n (gap_in cs))
 
+-- at most past the end, and there where no 0 stands
+pub gap_length : (cs : List ℕ) → gap_in cs ≤ length cs
+unfolding gap_in
+gap_length [] = omega arith
+gap_length (c ∷ cs) = grind (arith, nat_tests, gap_length cs)
+
+pub gap_none : (cs : List ℕ) → ((q : ℕ) → q < length cs → get_or cs q 0 ≢ 0) → gap_in cs ≡ length cs
+gap_none cs n = grind (arith, gap_zero cs, gap_length cs, n (gap_in cs))
+
 -- the one 0, at i, goes to j
 pub swap_zero : (cs : List ℕ) (i j : ℕ) → i < length cs → j < length cs → i ≢ j → ((q : ℕ) → q < length cs → get_or cs q 0 ≡ 0 → q ≡ i) →
     (q : ℕ) → q < length cs → get_or (swap cs i j) q 0 ≡ 0 → q ≡ j
