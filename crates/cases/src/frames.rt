@@ -1,6 +1,7 @@
 //! Signs and verdicts of frames that are worked by hand in docs/RULE.md, and cells that are no frame.
 use frame::check::{Frame, Misfit};
 use frame::sides::Sides;
+use frame::sign::{can_be_done, sign};
 use std::test::Fail;
 
 const IN_ORDER: [u16; 16] = [1, 2, 3, 4, 5, 6, 7, 8, 9, 10, 11, 12, 13, 14, 15, 0];
@@ -74,6 +75,9 @@ fn no_frames(rt: HostRuntime) -> Result<(), Fail> {
     assert_eq!(rt; misfit(sides, &[1, 2, 3, 2]), Some(Misfit::Twice(3, 1)));
     assert_eq!(rt; misfit(sides, &[3, 2, 1, 0]), None);
     assert_eq!(rt; misfit(sides, &[0, 0, 4, 1]), Some(Misfit::Twice(1, 0)));
+    assert_eq!(rt; sign(sides, &[0, 0, 4, 1]), Err(Misfit::Twice(1, 0)));
+    assert_eq!(rt; sign(sides, &[1, 2, 3, 0]), Ok(1));
+    assert_eq!(rt; can_be_done(sides, &[1, 2, 3, 0]), Ok(true));
     assert_eq!(rt; Sides::new(1, 2), None);
     assert_eq!(rt; Sides::new(2, 17), None);
     Ok(())

@@ -1,31 +1,39 @@
 -- Inversions counted cell by cell, and where the gap is found.
-use Rattle.std.proofs.Common.{◌≡◌, ℕ, ◌+◌, ◌<◌, ◌≤◌, Bool, true, false, cond, ◌&&◌, nat_lt, ◌≢◌, List, [], ◌∷◌, length, get_or, drop, Some, None, Option, IsSome, subst, sym, refl, arith, MatchOption}
-use Rattle.std.specs.List.{count_by}
-use Rattle.std.proofs.lemmas.List.Sums.{sum_by-cons, count_by-le-length}
+use Rattle.std.proofs.Common.{◌≡◌, ℕ, ◌+◌, ◌<◌, ◌≤◌, Bool, true, false, ◌&&◌, nat_lt, ◌≢◌, List, [], ◌∷◌, length, get_or, drop, Some, None, Option, IsSome, unwrap_or, sym, refl, arith, tests, MatchOption}
+use Rattle.std.specs.Int.{from_bool}
+use Rattle.std.specs.List.{sum_by}
+use Rattle.std.proofs.lemmas.List.Sums.{sum_by-cons}
 use Rattle.slide.specs.Tiles.{Frame, pick, larger_than, wrong_pairs, gap_in, gap, proper}
-use Rattle.slide.proofs.Gap.{gap_first, gap_zero}
+use Rattle.slide.proofs.Gap.{gap_first, gap_none, gap_zero}
 use Rattle.slide.proofs.Proper.{is_proper}
 
 -- ---- the tiles that are smaller than c
-abbrev smaller : ℕ → ℕ → Bool
-smaller c d = nat_lt 0 d && nat_lt d c
+-- 1 for such a tile, and else 0
+abbrev pub one_if_smaller : ℕ → ℕ → ℕ
+one_if_smaller c d = from_bool (nat_lt 0 d && nat_lt d c)
 
--- counted one by one
-larger_count : (c : ℕ) (cs : List ℕ) → larger_than c cs ≡ count_by (smaller c) cs
+-- added up
+pub larger_sum : (c : ℕ) (cs : List ℕ) → larger_than c cs ≡ sum_by (one_if_smaller c) cs
 unfolding larger_than
-larger_count c [] = refl
-larger_count c (d ∷ cs) = rw (sum_by-cons (λ e. cond (smaller c e) 1 0) d cs, larger_count c cs) (by (smaller c d))
+larger_sum c [] = refl
+larger_sum c (d ∷ cs) = rw (sum_by-cons (one_if_smaller c) d cs, larger_sum c cs) (by (nat_lt 0 d && nat_lt d c))
   where
-    by : (b : Bool) → pick b 1 0 + count_by (smaller c) cs ≡ cond b 1 0 + count_by (smaller c) cs
+    by : (b : Bool) → pick b 1 0 + sum_by (one_if_smaller c) cs ≡ from_bool b + sum_by (one_if_smaller c) cs
     by true = refl
     by false = refl
 
+-- no more than there are cells
+pub larger_few : (c : ℕ) (cs : List ℕ) → larger_than c cs ≤ length cs
+unfolding larger_than
+larger_few c [] = omega arith
+larger_few c (d ∷ cs) = let e : pick {A = ℕ} (nat_lt 0 d && nat_lt d c) 1 0 ≤ 1 = grind (arith, tests) in omega (arith, larger_few c cs)
+
 -- ---- inversions with the first cell, of which there are n, and without it
-pub wrong_more : (cs : List ℕ) → 1 ≤ length cs → (n : ℕ) → n ≡ count_by (λ d. nat_lt 0 d && nat_lt d (get_or cs 0 0)) (drop 1 cs) →
+pub wrong_more : (cs : List ℕ) → 1 ≤ length cs → (n : ℕ) → n ≡ larger_than (get_or cs 0 0) (drop 1 cs) →
     (wrong_pairs cs ≡ n + wrong_pairs (drop 1 cs)) × (n + 1 ≤ length cs)
 unfolding wrong_pairs
 wrong_more [] h n e = absurd (omega arith)
-wrong_more (c ∷ cs) h n e = (rw (larger_count c cs, e) refl, omega (arith, e, count_by-le-length (smaller c) cs))
+wrong_more (c ∷ cs) h n e = (rw e refl, omega (arith, e, larger_few c cs))
 
 -- none are left behind the last cell
 pub wrong_end : (cs : List ℕ) → length cs < 1 → wrong_pairs cs ≡ 0
@@ -43,6 +51,7 @@ pub gap_held : (f : Frame) → proper f ≡ true → (o : Option ℕ) → Zero f
 gap_held f p None z = let g = (is_proper f p).gapped in absurd (z (gap f) (omega (arith, g.has, g.len)) (gap_zero f.cells))
 gap_held f p (Some k) z = refl
 
--- and it is the gap
-pub gap_found : (cs : List ℕ) (o : Option ℕ) (k : ℕ) → o ≡ Some k → Zero cs o → k ≡ gap_in cs
-gap_found cs o k e z = let f : Zero cs (Some k) = subst (Zero cs) e z in sym (gap_first cs k f.0 f.1 f.2)
+-- where there is one, that is the gap, and else the gap is past the end
+pub gap_found : (cs : List ℕ) (o : Option ℕ) → Zero cs o → unwrap_or o (length cs) ≡ gap_in cs
+gap_found cs None z = sym (gap_none cs z)
+gap_found cs (Some k) z = sym (gap_first cs k z.0 z.1 z.2)

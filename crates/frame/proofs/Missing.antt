@@ -17,9 +17,9 @@ module _ (cs : List ℕ) where
   not_found : (v : ℕ) → holds v ≡ false → Contains cs v → ⊥
   not_found v e h = let f : holds v ≡ true = list_any_at (λ c. nat_eq c v) cs h.0 v h.1 (search (rules, tests, h.2)) in cc
 
-  -- of the numbers below n, tried one by one
-  pub first_missing : (n : ℕ) (o : Option ℕ) →
-      MatchOption o ((k : ℕ) → 0 ≤ k → k < n → holds k ≡ true) (λ i. (0 ≤ i) × (i < n) × (holds i ≡ false) × ((k : ℕ) → 0 ≤ k → k < i → holds k ≡ true)) →
-      FirstMissing n cs o
-  first_missing n None all = λ v l. found v (all v (omega arith) l)
-  first_missing n (Some m) f = (f.1, not_found m f.2, λ v l. found v (f.3 v (omega arith) l))
+  -- of the numbers from a on and below n, tried one by one, where a is 0
+  pub first_missing : (a n : ℕ) (o : Option ℕ) →
+      MatchOption o ((k : ℕ) → a ≤ k → k < n → holds k ≡ true) (λ i. (a ≤ i) × (i < n) × (holds i ≡ false) × ((k : ℕ) → a ≤ k → k < i → holds k ≡ true)) →
+      a ≡ 0 → FirstMissing n cs o
+  first_missing a n None all z = λ v l. found v (all v (omega arith) l)
+  first_missing a n (Some m) f z = (f.1, not_found m f.2, λ v l. found v (f.3 v (omega arith) l))

@@ -1,9 +1,9 @@
 //! The sign of a frame, and what it tells: whether the frame can be put in order.
-ghost use Rattle.std.specs.Prelude.{◌≡◌, ℕ, ◌+◌, ◌*◌, ◌/◌, ◌%◌, ◌≤◌, ◌&&◌, List, ◌==◌, nat_lt, count_by};
+ghost use Rattle.std.specs.Prelude.{◌≡◌, ℕ, ◌+◌, ◌*◌, ◌/◌, ◌%◌, ◌≤◌, ◌&&◌, List, length, MatchResult, ◌==◌, nat_lt};
 ghost use Rattle.slide.specs.Tiles.{pick, gap, larger_than, wrong_pairs, sign, ordered};
-ghost use Rattle.frame.specs.Cells.{SignedBy, DecidedBy, MendedBy};
+ghost use Rattle.frame.specs.Cells.{framed, Misfits, SignedBy, DecidedBy, MendedBy};
 
-use super::check::{Frame, find};
+use super::check::{Frame, Misfit, find};
 use super::sides::Sides;
 
 /// Whether two cells, the earlier first, hold tiles that stand the wrong way round: the later one is smaller. The gap is no tile.
@@ -14,13 +14,15 @@ fn is_inversion(earlier: u16, later: u16) -> bool
 }
 
 /// How many of the later cells hold a tile that is smaller than the earlier one.
+// A sum of zeros and ones: `filter` and `count` branch at each cell, which takes twice as long.
 fn inversions_with(earlier: u16, later: &[u16]) -> usize
-    ensures { result ≡ count_by (λ tile. nat_lt 0 tile && nat_lt tile earlier) later.now }
+    ensures value { result ≡ larger_than earlier later.now }
+    ensures few { result ≤ length later.now }
 {
     later
         .iter()
-        .filter(|tile| is_inversion(earlier, **tile))
-        .count()
+        .map(|tile| usize::from(is_inversion(earlier, *tile)))
+        .sum()
 }
 
 impl Frame<'_> {
@@ -61,6 +63,21 @@ impl Frame<'_> {
     {
         self.sign() == self.sides.ordered_sign()
     }
+}
+
+/// The sign of any cells as a frame of these sides, or what keeps them from being one.
+// Beside the method: whoever has cells asks it of them as they are.
+pub fn sign(sides: Sides, cells: &[u16]) -> Result<u16, Misfit>
+    ensures { MatchResult result (SignedBy (framed sides cells.now)) (Misfits sides cells.now) }
+{
+    Ok(Frame::new(sides, cells)?.sign())
+}
+
+/// Whether some moves, however many, bring any cells in order as a frame of these sides; or what keeps them from being one.
+pub fn can_be_done(sides: Sides, cells: &[u16]) -> Result<bool, Misfit>
+    ensures { MatchResult result (DecidedBy (framed sides cells.now)) (Misfits sides cells.now) }
+{
+    Ok(Frame::new(sides, cells)?.can_be_done())
 }
 
 impl Sides {

@@ -7,4 +7,4 @@ pub unwrap-requires : goal.unwrap-requires
 unwrap-requires c = gap_held (framed c.self.inside.sides c.self.inside.cells.now) c.self.invariant c.find.result c.find.ensures
 
 pub returns-clause-value : goal.returns-clause-value
-returns-clause-value c = rw (← c.self.view_is) (gap_found c.self.inside.cells.now c.find.result c.unwrap.result c.unwrap.ensures c.find.ensures)
+returns-clause-value c = rw (← c.self.view_is) (rw c.unwrap.ensures at (gap_found c.self.inside.cells.now c.find.result c.find.ensures))
