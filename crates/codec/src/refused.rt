@@ -37,10 +37,8 @@ impl Refusal {
         ensures value { as_read turned_away result ≡ read_refusal bytes.now }
         ensures whole { OnOk result (length bytes.now ≡ 7) }
     {
-        if let Some(place) = first_misfit(bytes) {
-            return Err(Misread { place });
-        }
-        exactly(bytes, 7)?;
+        // The bytes go on too far from the first that can't stand on.
+        exactly(bytes, first_misfit(bytes).unwrap_or(7))?;
         let number = u16::from_le_bytes(behind_first(bytes)?);
         let place = u32::from_le_bytes(behind_first(&bytes[2..])?);
         // Bytes that can stand where they do are a refusal of the list.
