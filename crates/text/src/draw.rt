@@ -26,12 +26,10 @@ fn digits(count: usize) -> usize
 
 /// One row, and the end of its line.
 fn draw_row<W: fmt::Write>(f: &mut fmt::Formatter<W>, row: &[u16], width: usize) -> fmt::Result {
-    let [first, others @ ..] = row else {
-        return writeln!(f);
-    };
-    write!(f, "{first:>width$}")?;
-    for cell in others {
-        write!(f, " {cell:>width$}")?;
+    let mut blank = "";
+    for cell in row {
+        write!(f, "{blank}{cell:>width$}")?;
+        blank = " ";
     }
     writeln!(f)
 }
