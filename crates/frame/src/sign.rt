@@ -13,15 +13,16 @@ fn is_inversion(earlier: u16, later: u16) -> bool
     0 < later && later < earlier
 }
 
-/// How many of the later cells hold a tile that is smaller than the earlier one.
-// A sum of zeros and ones: `filter` and `count` branch at each cell, which takes twice as long.
-fn inversions_with(earlier: u16, later: &[u16]) -> usize
+/// How many of the later cells of a frame hold a tile that is smaller than the earlier one.
+// A sum of zeros and ones, as wide as the cells are: `filter` and `count` branch at each cell, and take twice as long.
+fn inversions_with(earlier: u16, later: &[u16]) -> u16
+    requires { length later.now ≤ 256 }
     ensures value { result ≡ larger_than earlier later.now }
     ensures few { result ≤ length later.now }
 {
     later
         .iter()
-        .map(|tile| usize::from(is_inversion(earlier, *tile)))
+        .map(|tile| u16::from(is_inversion(earlier, *tile)))
         .sum()
 }
 
@@ -34,7 +35,7 @@ impl Frame<'_> {
         let mut cells = self.cells;
         let mut pairs = 0;
         while let [first, later @ ..] = cells {
-            pairs += inversions_with(*first, later);
+            pairs += usize::from(inversions_with(*first, later));
             cells = later;
         }
         pairs
@@ -54,7 +55,8 @@ impl Frame<'_> {
     pub fn sign(&self) -> u16
         ensures { SignedBy self.now result }
     {
-        ((self.inversions() + self.sides.counted_row(self.gap())) % 2) as u16
+        let row = self.gap() / self.sides.wide;
+        ((self.inversions() + self.sides.counted_row(row)) % 2) as u16
     }
 
     /// Whether some moves, however many, bring the frame in order.
@@ -88,23 +90,19 @@ impl Sides {
         self.wide.is_multiple_of(2)
     }
 
-    /// The row of a cell from 0, where rows count, and else 0.
-    fn counted_row(self, cell: usize) -> usize
-        ensures value { result ≡ pick (self.wide % 2 == 0) (cell / self.wide) 0 }
-        ensures few { result ≤ cell }
+    /// A row from 0, where rows count, and else 0.
+    fn counted_row(self, row: usize) -> usize
+        ensures value { result ≡ pick (self.wide % 2 == 0) row 0 }
+        ensures few { result ≤ row }
     {
-        if self.row_counts() {
-            cell / self.wide
-        } else {
-            0
-        }
+        if self.row_counts() { row } else { 0 }
     }
 
-    /// The sign of the frame in order, a number as `Frame::sign` is: there are no inversions, and the gap is in the last cell.
+    /// The sign of the frame in order, a number as `Frame::sign` is: there are no inversions, and the gap is in the last row.
     pub fn ordered_sign(self) -> u16
         ensures { result ≡ sign (ordered self.wide self.tall) }
     {
-        (self.counted_row(self.count() - 1) % 2) as u16
+        (self.counted_row(self.tall - 1) % 2) as u16
     }
 
     /// The two tiles with the largest numbers. Where a frame of these sides can't be put in order, it can once these two are exchanged.

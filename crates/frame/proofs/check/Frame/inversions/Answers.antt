@@ -7,7 +7,7 @@ use Rattle.frame.proofs.check.Frame.inversions.Goals as goal
 pub loop-cells-preserved : goal.loop-cells-preserved
 loop-cells-preserved c =
     let cs = c.loop-cells.cells.now in
-    let more = wrong_more cs c.in-len1-up.len_at_least _ (rw (take_rest cs 1) at c.inversions_with-pairs.ensures.value) in
+    let more = wrong_more cs c.in-len1-up.len_at_least _ (rw (take_rest cs 1) at c.inversions_with.ensures.value) in
     rw (take_rest cs 1) (omega arith, omega (arith, length-drop 1 cs))
 
 pub returns-clause-value : goal.returns-clause-value
