@@ -37,7 +37,7 @@ impl Refusal {
         ensures value { as_read turned_away result ≡ read_refusal bytes.now }
         ensures whole { OnOk result (length bytes.now ≡ 7) }
     {
-        // The bytes go on too far from the first that can't stand on.
+        // Where a byte can't stand, the bytes should have ended before it.
         exactly(bytes, first_misfit(bytes).unwrap_or(7))?;
         let number = u16::from_le_bytes(behind_first(bytes)?);
         let place = u32::from_le_bytes(behind_first(&bytes[2..])?);

@@ -1,5 +1,5 @@
 -- A line read word by word.
-use Rattle.std.proofs.Common.{◌≡◌, ℕ, suc, ◌+◌, ◌-◌, ◌<◌, List, [], ◌∷◌, ◌++◌, length, sym, ap, ◌∙◌, subst, append_assoc, append-nil, arith, length-append}
+use Rattle.std.proofs.Common.{◌≡◌, ℕ, suc, ◌+◌, ◌-◌, ◌<◌, ◌≤◌, List, [], ◌∷◌, ◌++◌, length, sym, ap, ◌∙◌, subst, append_assoc, append-nil, arith, length-append}
 use Rattle.std.specs.Str.Parse.{IsNumeral, digits_value, without_leading_plus}
 use Rattle.std.specs.Char.{is_whitespace, is_not_whitespace}
 use Rattle.std.specs.Str.{NoCharPasses, EmptyOrStartsWithPassing}
@@ -9,6 +9,15 @@ use Rattle.text.specs.Rows.{Word, Says, Numbers, Misread}
 -- what `split_whitespace` says of a word that it gives
 pub word_of : (bs w rest : List ℕ) → (blank : List ℕ) × (bs ≡ blank ++ (w ++ rest)) × (0 < length w) × NoCharPasses is_not_whitespace blank × NoCharPasses is_whitespace w × ((more : List ℕ) × EmptyOrStartsWithPassing is_whitespace rest more) → Word bs w rest
 word_of bs w rest c = record { blank = c.0; cut = c.1; some = c.2; empty = c.3; solid = c.4; ends = c.5 }
+
+-- what follows a word is shorter
+shorter : {bs w rest : List ℕ} → Word bs w rest → length rest < length bs
+shorter {bs} {w} {rest} h = omega (arith, h.some, ap length h.cut ∙ length-append h.blank (w ++ rest), length-append w rest)
+
+-- so a line has no more words than bytes
+pub words_few : (bs ns : List ℕ) → Numbers bs ns → length ns ≤ length bs
+words_few bs [] h = omega arith
+words_few bs (n ∷ ns) h = omega (arith, words_few h.1 ns h.4, shorter h.2)
 
 -- the words of text before rest are numbers, which now stand behind the cells that were there
 pub record WordsSeen (text rest old now : List ℕ) : Type 0 where

@@ -89,11 +89,11 @@ module _ {text rest cs ls : List ℕ} {w : Option ℕ} {k : ℕ} (so_far : Lines
       more None none f = omega (arith, so_far.count, ap length none)
       more (Some v) so f = f.0
 
--- a line, as it was read
-pub line_taken : {text rest : List ℕ} {k : ℕ} (a b : Reading) (l next : List ℕ) → LinesSeen text rest (vec_items a.cells) (vec_items a.lines) a.wide k →
-    FirstLine rest l next → Taken (k + 1) l a b → LinesSeen text next (vec_items b.cells) (vec_items b.lines) b.wide (k + 1)
-line_taken a b l next so_far first (inl t) = rw (t.1, t.2, t.3) (line_passed so_far first t.0)
-line_taken a b l next so_far first (inr t) = line_row so_far first t.0 t.1 t.2 t.3 t.4 t.5
+-- a line, as it was read, with the number j after those so far
+pub line_taken : {text rest : List ℕ} {k : ℕ} (j : ℕ) (a b : Reading) (l next : List ℕ) → LinesSeen text rest (vec_items a.cells) (vec_items a.lines) a.wide k →
+    FirstLine rest l next → Taken j l a b → j ≡ k + 1 → LinesSeen text next (vec_items b.cells) (vec_items b.lines) b.wide (k + 1)
+line_taken j a b l next so_far first (inl t) e = rw (t.1, t.2, t.3) (line_passed so_far first t.0)
+line_taken j a b l next so_far first (inr t) e = line_row so_far first t.0 t.1 t.2 t.3 (rw e at t.4) t.5
 
 -- what `lines` says of a line that it gives
 pub line_of : (bs l rest : List ℕ) → (0 < length bs) × (length l + length rest ≤ length bs) × IsFirstLine bs l rest → FirstLine bs l rest

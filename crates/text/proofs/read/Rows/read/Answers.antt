@@ -14,7 +14,7 @@ loop-index-preserved c =
     let steps = c.in-Some.ensures.steps in
     let first = line_of (lines_rest c.loop-index.index-iterator.iter) c.in-Some.row.now rest steps.0.0 in
     rw steps.2 (
-      line_taken c.loop-index.reading c.take_line.new.self c.in-Some.row.now rest c.loop-index.invariant.0 first (rw steps.1 at c.in_ok-take_line.ensures),
+      line_taken _ c.loop-index.reading c.take_line.new.self c.in-Some.row.now rest c.loop-index.invariant.0 first c.in_ok-take_line.ensures (omega (arith, steps.1)),
       omega (arith, steps.1),
     )
 
