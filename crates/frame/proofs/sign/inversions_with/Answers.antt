@@ -1,17 +1,9 @@
 -- Zeros and ones for the later cells, added up.
 use Rattle.std.proofs.Common.{◌∙◌, sym, arith, rules, tests}
 use Rattle.std.proofs.lemmas.Iterator.{YieldsList-from_map, YieldsList-from_slice}
-use Rattle.std.proofs.lemmas.Iterator.Consumers.{sum_by_from_yields_List, fits_by_from_yields_list}
+use Rattle.std.proofs.lemmas.Iterator.Consumers.{sum_by_from_yields_List}
 use Rattle.frame.proofs.Inversions.{one_if_smaller, larger_sum, larger_few}
 use Rattle.frame.proofs.sign.inversions_with.Goals as goal
-
-pub sum-requires-clause-fits : goal.sum-requires-clause-fits
-sum-requires-clause-fits c =
-    let h = one_if_smaller c.args.earlier in
-    let cs = c.args.later.now in
-    fits_by_from_yields_list h cs c.map.result 65536
-    (YieldsList-from_map _ h (YieldsList-from_slice cs (cc)) c.map.ensures.closure (λ x r q k. search (rules, tests)))
-    (omega (arith, c.requires, larger_sum c.args.earlier cs, larger_few c.args.earlier cs))
 
 pub returns-clause-value : goal.returns-clause-value
 returns-clause-value c =
